@@ -1,0 +1,5 @@
+pub mod Ring
+pub mod FieldLaws
+pub mod WordLaws
+pub mod SketchLaws
+pub mod EvaluationLaws

@@ -1,0 +1,10 @@
+pub mod Field
+pub mod Words
+pub mod Sides
+pub mod ReportIds
+pub mod Prefixes
+pub mod Evaluation
+pub mod Sketch
+pub mod Generation
+pub mod Check
+pub mod Laws
