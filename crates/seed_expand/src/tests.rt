@@ -4,7 +4,7 @@
 ghost use Rattle.std.specs.Prelude.{◌≡◌, ◌<◌};
 ghost use Rattle.definitions.specs.Words.{extend};
 
-use crate::{Children, Seed, Steps, convert, extend, number_at, part, xor};
+use crate::{Children, Converted, Seed, Steps, convert, extend, number_at, part, xor};
 use definitions::plain_words;
 use std::marker::Brand;
 use std::sync::ledger::{Blank, Ledger};
@@ -45,20 +45,26 @@ fn fast_bodies_equal_the_plain_words(rt: HostRuntime) {
         bytes[usize::from(turn)] = 31 * turn + 7;
         let seed = Seed(bytes);
         let children = extend_on::<Brand>(&seed, Blank::new(1));
-        assert_eq!(rt; children.left.0, plain_words::part(&bytes, 0, 0));
-        assert_eq!(rt; children.right.0, plain_words::part(&bytes, 0, 8));
         let bits = plain_words::word(&bytes, 0, 16);
-        assert_eq!(rt; children.bit_left, bits % 2 == 1);
-        assert_eq!(rt; children.bit_right, bits / 2 % 2 == 1);
-        let converted = convert(&seed);
-        assert_eq!(rt; converted.next.0, plain_words::part(&bytes, 1, 0));
-        assert_eq!(rt; converted.u, plain_words::number(&bytes, 1, 8));
-        assert_eq!(rt; converted.v, plain_words::number(&bytes, 1, 12));
-        assert_eq!(rt; part(&seed, 5, 16).0, plain_words::part(&bytes, 5, 16));
+        let expected = Children {
+            left: Seed(plain_words::part(&bytes, 0, 0)),
+            right: Seed(plain_words::part(&bytes, 0, 8)),
+            bit_left: bits % 2 == 1,
+            bit_right: bits / 2 % 2 == 1,
+        };
+        assert_eq!(rt; children, expected);
+        let expected = Converted {
+            next: Seed(plain_words::part(&bytes, 1, 0)),
+            u: plain_words::number(&bytes, 1, 8),
+            v: plain_words::number(&bytes, 1, 12),
+        };
+        assert_eq!(rt; convert(&seed), expected);
+        let other = part(&seed, 5, 16);
+        assert_eq!(rt; other, Seed(plain_words::part(&bytes, 5, 16)));
         assert_eq!(rt; number_at(&seed, 5, 3), plain_words::number(&bytes, 5, 3));
         assert_eq!(rt;
-            xor(&children.left, &children.right).0,
-            plain_words::xor(&children.left.0, &children.right.0)
+            xor(&seed, &other),
+            Seed(plain_words::xor(&bytes, &other.0))
         );
     }
 }
