@@ -23,7 +23,7 @@ same-refl [] = refl
 same-refl (true ∷ xs) = same-refl xs
 same-refl (false ∷ xs) = same-refl xs
 
-same-is : (xs ys : List Bool) → same xs ys ≡ true → xs ≡ ys
+pub same-is : (xs ys : List Bool) → same xs ys ≡ true → xs ≡ ys
 same-is [] [] e = refl
 same-is [] (y ∷ ys) e = cc
 same-is (x ∷ xs) [] e = cc

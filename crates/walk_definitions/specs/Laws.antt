@@ -1,5 +1,6 @@
 -- What holds of the walk.
 use Rattle.std.specs.Prelude.{◌≡◌, ◌⊎◌, ℕ, ◌-◌, ◌<◌, ◌≤◌, Bool, true, List, [], ◌∷◌, length}
+use Rattle.std.specs.List.Sorted.{IsPermutation}
 use Rattle.definitions.specs.declared.Side.TheVariants.{Zero, One}
 use Rattle.definitions.specs.Field.{modulus}
 use Rattle.definitions.specs.Generation.{IsGenerated}
@@ -75,3 +76,8 @@ IdsAscend (r ∷ rs) = AllIdsAfter r.id rs × IdsAscend rs
 -- Each id stands once in the batch, and they ascend.
 abbrev pub BatchOrderLaw : Type 0
 BatchOrderLaw = (shares0 shares1 : List Share) → IdsAscend (batch shares0 shares1)
+
+-- The heavy prefixes and their counts do not depend on the order of the strings.
+abbrev pub OrderLaw : Type 0
+OrderLaw = (level threshold : ℕ) (strings others : List (List Bool)) → IsPermutation strings others
+    → heavy level strings threshold ≡ heavy level others threshold

@@ -5,7 +5,7 @@ use Rattle.definitions.specs.declared.Side.{Side}
 use Rattle.definitions.specs.declared.Side.TheVariants.{Zero, One}
 use Rattle.definitions.specs.Field.{add, total_by}
 use Rattle.definitions.specs.Evaluation.{node}
-use Rattle.definitions.specs.Sketch.{Sums, sums_added, coin}
+use Rattle.definitions.specs.Sketch.{Sums, coin}
 use Rattle.definitions.specs.Check.{masked_sums, opened_sums, side_sigma, sigma_sum as sum_of_sigmas}
 use Rattle.walk_definitions.specs.Reports.{Report, held}
 
