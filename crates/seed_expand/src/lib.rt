@@ -6,9 +6,11 @@ mod draws;
 mod expansion;
 mod seeds;
 mod steps;
+mod stream_reader;
 #[cfg(test)]
 mod tests;
 
 pub use crate::expansion::{convert, extend, number_at, part, xor};
 pub use crate::seeds::{Children, Converted, Seed};
 pub use crate::steps::Steps;
+pub use crate::stream_reader::StreamReader;

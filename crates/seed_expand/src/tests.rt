@@ -4,7 +4,9 @@
 ghost use Rattle.std.specs.Prelude.{◌≡◌, ◌<◌};
 ghost use Rattle.definitions.specs.Words.{extend};
 
-use crate::{Children, Converted, Seed, Steps, convert, extend, number_at, part, xor};
+use crate::{
+    Children, Converted, Seed, Steps, StreamReader, convert, extend, number_at, part, xor,
+};
 use definitions::plain_words;
 use std::marker::Brand;
 use std::sync::ledger::{Blank, Ledger};
