@@ -55,7 +55,7 @@ pub struct Share {
 impl Model for Share {
     ghost use Rattle.std.specs.Prelude.{◌≤◌, ◌%◌, ◌≡◌, length};
     ghost use Rattle.definitions.specs.Evaluation.{Share as Held};
-    ghost use Rattle.prefix_bits.specs.declared.prefix.TheConstants.{MOST_BITS};
+    ghost use Rattle.prefix_bits.specs.declared.TheConstants.{MOST_BITS};
 
     ghost Value = { Held };
 

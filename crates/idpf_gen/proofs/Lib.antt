@@ -1,0 +1,4 @@
+pub mod Reduced
+pub mod CoinSteps
+pub mod WordSteps
+pub mod PairLaws

@@ -1,0 +1,5 @@
+pub mod Bits
+pub mod Laws
+pub mod Stored
+pub mod StoredLaws
+pub mod Orders
