@@ -1,0 +1,10 @@
+mod Totals
+mod Counts
+mod Logs
+mod Lists
+mod Longest
+mod Moves
+mod Told
+mod Dealing
+mod Gathering
+mod Orderly
