@@ -1,10 +1,7 @@
 -- What holds of two shares that are the generated pair.
-use Rattle.std.proofs.Common.{◌≡◌, ℕ, ◌+◌, ◌≤◌, Bool, List, [], ◌∷◌, ◌++◌, length, refl, sym, ◌∙◌, ap, subst, arith, length-append, zero, suc}
-use Rattle.definitions.specs.declared.Side.TheVariants.{Zero, One}
-use Rattle.definitions.specs.Prefixes.{is_prefix}
-use Rattle.definitions.specs.Evaluation.{Share, node}
+use Rattle.std.proofs.Common.{◌≡◌, ℕ, ◌+◌, Bool, List, [], ◌∷◌, length, refl, sym, ◌∙◌, subst, arith, length-append, zero, suc}
+use Rattle.definitions.specs.Evaluation.{Share}
 use Rattle.definitions.specs.Sketch.{Triple}
-use Rattle.definitions.specs.Check.{Passes}
 use Rattle.definitions.specs.Generation.{Path, LevelCoins, ClientCoins, path_after, words0, words1, share0, share1, coins_of_levels, level_coins, client_coins}
 use Rattle.generation_laws.proofs.PointLaws.{point_law}
 use Rattle.generation_laws.proofs.HonestLaws.{honest_law}

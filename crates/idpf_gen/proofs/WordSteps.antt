@@ -1,12 +1,11 @@
 -- The words of one more level, and of none.
-use Rattle.std.proofs.Common.{◌≡◌, ℕ, ◌+◌, ◌<◌, ◌≤◌, Bool, false, List, [], ◌∷◌, ◌++◌, Some, length, drop, refl, sym, ◌∙◌, ap, append_assoc, append-nil}
+use Rattle.std.proofs.Common.{◌≡◌, ℕ, ◌+◌, ◌<◌, ◌≤◌, Bool, false, List, [], ◌∷◌, ◌++◌, Some, length, drop, sym, ◌∙◌, ap, append_assoc, append-nil}
 use Rattle.std.proofs.lemmas.List.{drop_all, drop_more}
 use Rattle.std.proofs.lemmas.Option.{get_or_from_slice_get}
 use Rattle.std.specs.Prelude.{slice_get, slice_index_or}
-use Rattle.definitions.specs.Field.{sub}
 use Rattle.definitions.specs.Evaluation.{LevelWord}
-use Rattle.definitions.specs.Sketch.{Triple, correction_a, correction_b}
-use Rattle.definitions.specs.Generation.{Path, LevelCoins, value_word, path_after, words0, words1}
+use Rattle.definitions.specs.Sketch.{Triple}
+use Rattle.definitions.specs.Generation.{Path, LevelCoins, path_after, words0, words1}
 use Rattle.generation_laws.specs.Points.{no_coins}
 use Rattle.idpf_gen.specs.LevelWords.{word0, word1}
 

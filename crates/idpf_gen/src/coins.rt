@@ -1,7 +1,7 @@
 //! The coins of a client's report: two root seeds, two correlation seeds, and three elements of each level.
 //! They are read from the streams of the report's own seed, which comes from a master seed and a line's number.
 
-ghost use Rattle.std.specs.Prelude.{◌≡◌, ◌+◌, ◌≤◌, IfOk};
+ghost use Rattle.std.specs.Prelude.{◌≡◌, ◌+◌, ◌≤◌, IfOk, length};
 ghost use Rattle.definitions.specs.Generation.{client_coins, level_coins, coins_of_levels};
 
 use definitions::Sequence;
@@ -71,6 +71,7 @@ fn coins_of_level(seed: &Seed, level: u16) -> LevelCoins
 #[tactic(auto, using(crate::proofs::CoinSteps::coin_steps))]
 fn coins_of_all(alloc: Global, seed: &Seed, bits: u16) -> Result<Vec<LevelCoins>, AllocError>
     ensures value { IfOk result (λ coins. coins.items ≡ coins_of_levels seed.now bits) }
+    ensures count { IfOk result (λ coins. length coins.items ≡ bits) }
 {
     let mut coins = Vec::with_capacity(alloc, usize::from(bits))?;
     for done in 0..bits {
@@ -81,7 +82,7 @@ fn coins_of_all(alloc: Global, seed: &Seed, bits: u16) -> Result<Vec<LevelCoins>
 
 /// The coins of the report of a line, counted from 0, for strings of so many bits. `AllocError` is want of memory for
 /// the levels' coins.
-#[tactic(auto, unfolding(definitions::specs::Generation::client_coins))]
+#[tactic(auto, unfolding(definitions::specs::Generation::client_coins), using(crate::proofs::PairLaws::pair_lengths))]
 pub fn coins_of(
     alloc: Global,
     master: &Seed,
@@ -89,6 +90,7 @@ pub fn coins_of(
     bits: u16,
 ) -> Result<ClientCoins, AllocError>
     ensures value { IfOk result (λ coins. coins ≡ client_coins master.now line bits) }
+    ensures levels { IfOk result (λ coins. length coins.levels ≡ bits) }
 {
     let seed = part(master, u64::from(line) + 1, 0);
     let levels = coins_of_all(alloc, &seed, bits)?;

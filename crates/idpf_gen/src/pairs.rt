@@ -130,6 +130,7 @@ pub fn pair_of(
     requires bits { (8 ≤ length alpha.now) × (length alpha.now ≤ MOST_BITS) × (length alpha.now % 8 ≡ 0) }
     ensures zero { IfOk result (λ pair. pair.0 ≡ share0 id alpha.now coins.now) }
     ensures one { IfOk result (λ pair. pair.1 ≡ share1 id alpha.now coins.now) }
+    ensures levels { IfOk result (λ pair. (length pair.0.levels ≡ length alpha.now) × (length pair.1.levels ≡ length alpha.now)) }
     ensures point { IfOk result (λ pair. AddUpToThePointOf alpha.now coins.now pair.0 pair.1) }
     ensures honest { IfOk result (λ pair. PassesEachLevel (length alpha.now) pair.0 pair.1) }
 {
@@ -162,6 +163,7 @@ pub fn gen_(
     requires bits { (8 ≤ length alpha.now) × (length alpha.now ≤ MOST_BITS) × (length alpha.now % 8 ≡ 0) }
     ensures zero { IfOk result (λ pair. pair.0 ≡ share0 (report_id tag line) alpha.now (client_coins master.now line (length alpha.now))) }
     ensures one { IfOk result (λ pair. pair.1 ≡ share1 (report_id tag line) alpha.now (client_coins master.now line (length alpha.now))) }
+    ensures levels { IfOk result (λ pair. (length pair.0.levels ≡ length alpha.now) × (length pair.1.levels ≡ length alpha.now)) }
     ensures point { IfOk result (λ pair. AddUpToThePointOf alpha.now (client_coins master.now line (length alpha.now)) pair.0 pair.1) }
     ensures honest { IfOk result (λ pair. PassesEachLevel (length alpha.now) pair.0 pair.1) }
 {

@@ -7,7 +7,7 @@ use crate::{ClientCoins, LevelCoins, coins_of, gen_, pair_of};
 use definitions::{Sequence, plain_field, plain_words};
 use field64::Fe;
 use idpf_eval::{Share, eval_uncounted};
-use prefix_bits::{Prefix, ReportId, Side};
+use prefix_bits::{MOST_BITS, Prefix, ReportId, Side};
 use seed_expand::Seed;
 use sketch_check::{CoinKey, Sums, correlation, masked, open, sigma};
 use std::alloc::{AllocError, Global};
@@ -40,35 +40,33 @@ fn added(zero: &Share, one: &Share, prefix: &Prefix) -> (u64, u64)
     (left.d.add(right.d).number(), left.e.add(right.e).number())
 }
 
-// A side's sums over the two prefixes that begin as the given one but for its last bit.
-fn side_sums(share: &Share, side: Side, coins: &CoinKey, prefix: &Prefix) -> Sums
-    requires some { 1 ≤ length prefix.now }
-    requires bits { length prefix.now ≤ length share.now.levels }
+// A side's sums over the two children of a prefix.
+fn side_sums(share: &Share, side: Side, coins: &CoinKey, parent: &Prefix) -> Sums
+    requires room { length parent.now < MOST_BITS }
+    requires bits { length parent.now < length share.now.levels }
 {
-    let parent = prefix.parent();
-    let mut sums = Sums::zero();
-    for place in 0..2_u32 {
-        let child = parent.child(place == 1);
-        let node = eval_uncounted(share, side, &child);
-        sums = sums.with(coins.coin(prefix.len(), place), node.d, node.e);
-    }
-    masked(&sums, &correlation(&share.corr, prefix.len()))
+    let level = parent.len() + 1;
+    let left = eval_uncounted(share, side, &parent.child(false));
+    let right = eval_uncounted(share, side, &parent.child(true));
+    let sums = Sums::zero()
+        .with(coins.coin(level, 0), left.d, left.e)
+        .with(coins.coin(level, 1), right.d, right.e);
+    masked(&sums, &correlation(&share.corr, level))
 }
 
 // What both sides' sigmas add up to over these two prefixes, with a number added to side 0's B.
-fn sigma_sum(zero: &Share, one: &Share, prefix: &Prefix, more: u64) -> u64
-    requires some { 1 ≤ length prefix.now }
-    requires zero { length prefix.now ≤ length zero.now.levels }
-    requires one { length prefix.now ≤ length one.now.levels }
+fn sigma_sum(zero: &Share, one: &Share, parent: &Prefix, more: u64) -> u64
+    requires room { length parent.now < MOST_BITS }
+    requires zero { length parent.now < length zero.now.levels }
+    requires one { length parent.now < length one.now.levels }
 {
     let coins = CoinKey::of(&Seed([9; 32]), &zero.id);
     let opened = open(
-        &side_sums(zero, Side::Zero, &coins, prefix),
-        &side_sums(one, Side::One, &coins, prefix),
+        &side_sums(zero, Side::Zero, &coins, parent),
+        &side_sums(one, Side::One, &coins, parent),
     );
-    let level = usize::from(prefix.len() - 1);
-    let left = zero.levels.as_slice()[level];
-    let right = one.levels.as_slice()[level];
+    let left = zero.levels.as_slice()[usize::from(parent.len())];
+    let right = one.levels.as_slice()[usize::from(parent.len())];
     let b = left.b.add(Fe::from_u128(u128::from(more)));
     sigma(Side::Zero, left.a, b, &opened)
         .add(sigma(Side::One, right.a, right.b, &opened))
@@ -80,18 +78,19 @@ fn equal_roots_add_up_to_the_point_and_pass(rt: HostRuntime) -> Result<(), Alloc
     let letter = Prefix::of_bytes(b"a");
     let coins = equal_roots(rt.alloc())?;
     let (zero, one) = pair_of(rt.alloc(), ReportId::of(1, 2), &letter, &coins)?;
-    let mut prefix = Prefix::empty();
+    let mut parent = Prefix::empty();
     for place in 0..8_u16 {
-        if prefix.len() < 8 && prefix.len() == place {
-            let other = prefix.child(!letter.bit(place));
-            prefix = prefix.child(letter.bit(place));
-            assert_eq!(rt; added(&zero, &one, &prefix), (1, 11));
-            assert_eq!(rt; added(&zero, &one, &other), (0, 0));
-            assert_eq!(rt; sigma_sum(&zero, &one, &prefix, 0), 0);
-            assert_eq!(rt; sigma_sum(&zero, &one, &prefix, 1), 1);
-        }
+        let child = parent.child(letter.bit(place));
+        assert_eq!(rt; added(&zero, &one, &child), (1, 11));
+        assert_eq!(rt;
+            added(&zero, &one, &parent.child(!letter.bit(place))),
+            (0, 0)
+        );
+        assert_eq!(rt; sigma_sum(&zero, &one, &parent, 0), 0);
+        assert_eq!(rt; sigma_sum(&zero, &one, &parent, 1), 1);
+        parent = child;
     }
-    assert_eq!(rt; prefix, letter);
+    assert_eq!(rt; parent, letter);
     Ok(())
 }
 

@@ -1,8 +1,8 @@
 //! Prefixes of whole bytes: from bytes, and back to bytes, the highest bit of a byte first.
 //! A string of the clients is such a prefix.
 
-ghost use Rattle.std.specs.Prelude.{◌≡◌, ◌≤◌, ◌<◌, ◌+◌, ◌*◌, ◌++◌, length, slice_index};
-ghost use Rattle.prefix_bits.specs.Bits.{bits_of_byte, bits_of_bytes, bytes_of_bits};
+ghost use Rattle.std.specs.Prelude.{◌≡◌, ◌≤◌, ◌*◌, length};
+ghost use Rattle.prefix_bits.specs.Bits.{bits_of_bytes, bytes_of_bits};
 
 use super::Prefix;
 use crate::MOST_BITS;
