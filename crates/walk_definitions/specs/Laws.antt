@@ -9,7 +9,8 @@ use Rattle.walk_definitions.specs.Ascending.{bytes_before}
 use Rattle.walk_definitions.specs.Reports.{Report, batch}
 use Rattle.walk_definitions.specs.Walk.{Settings, Heavy, done, ending, walk, live_at, total, survivors_at}
 use Rattle.walk_definitions.specs.Heavy.{count, heavy}
-use Rattle.walk_definitions.specs.Messages.{messages, sent_by}
+use Rattle.walk_definitions.specs.Messages.{messages}
+use Rattle.shelf_io.specs.Talks.{sent_by}
 use Rattle.walk_definitions.specs.Heard.{heard}
 
 -- each report came from key generation, for the string at its place, which has so many bits
