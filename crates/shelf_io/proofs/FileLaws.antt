@@ -5,7 +5,7 @@ use Rattle.std.specs.Bool.{Decides}
 use Rattle.std.proofs.lemmas.Map.Text.{is_eq-slice_cmp}
 use Rattle.std.specs.Cmp.Lexicographic.{slice_cmp, nat_list_cmp_total, bytes_decides}
 use Rattle.std.specs.FinMap.{get, insert, get-insert, same_map, IsAntisymmetric, slice_cmp-IsAntisymmetric, nat_cmp-IsAntisymmetric}
-use Rattle.std.specs.Prelude.{IsSome}
+use Rattle.std.specs.Prelude.{IfSome, IsSome}
 use Rattle.std.specs.Option.{option_map, unwrap_or}
 use Rattle.std.proofs.lemmas.List.{take_all}
 use Rattle.shelf_io.specs.Files.{Files, IsThere, HoldsFront, length_under, with_bytes, with_more}
@@ -106,6 +106,11 @@ some_long (Some bytes) n e = refl
 
 pub long_is_there : (held : Files) (name : List ℕ) (n : ℕ) → Some n ≡ length_under held name → IsSome (get held name)
 long_is_there held name n e = some_long (get held name) n e
+
+-- the same, where the shelf tells
+pub told_long_is_there : (told : Option Files) (name : List ℕ) (n : ℕ) → IfSome told (λ held. Some n ≡ length_under held name) → IsThere told name
+told_long_is_there None name n e = tt
+told_long_is_there (Some held) name n e = long_is_there held name n e
 
 -- a whole text under a name is a front of it
 pub whole_holds_front : (before now : Option Files) (name text : List ℕ) → now ≡ option_map (with_bytes name text) before → HoldsFront before now name text

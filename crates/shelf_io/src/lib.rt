@@ -1,5 +1,5 @@
 //! The outside: named files, a taker of bytes, a link between the two sides, and a gate that workers ask.
-//! The traits and their forms in memory and over the system are the project's own.
+//! The traits, their forms in memory and those over the system are the project's own.
 #![tactic(auto)]
 
 mod call;

@@ -1,26 +1,33 @@
 //! Which calls are to fail, and how many were made and have failed.
 //! The forms in memory ask it before each call.
 
-ghost use Rattle.std.specs.Prelude.{◌≡◌, ◌↔◌, ◌≤◌, Contains, IsTrue, slice_set};
+ghost use Rattle.std.specs.Prelude.{◌≡◌, ◌↔◌, ◌≤◌, IsTrue};
 ghost use Rattle.shelf_io.specs.Faults.{Rose};
-ghost use Rattle.shelf_io.specs.Plans.{place_of_call, next_number, none_made};
+ghost use Rattle.shelf_io.specs.Plans.{fresh, place_of_call, IsDue, WasMade};
 
 use crate::call::Call;
+use std::marker::Model;
 
 // The calls that are to fail, how many of each kind were made, and how many have failed.
 #[derive(Drop)]
 pub struct Plan {
-    pub fail: Vec<(Call, u64)>,
-    pub made: [u64; 7],
-    pub faults: u64,
+    fail: Vec<(Call, u64)>,
+    made: [u64; 7],
+    faults: u64,
+}
+
+impl Model for Plan {
+    ghost use Rattle.shelf_io.specs.Plans.{Planned};
+
+    ghost Value = { Planned };
+
+    ghost view = { λ a. record { fail = a.fail.items; made = a.made; faults = a.faults } };
 }
 
 impl Plan {
     // No call was made.
     pub fn new(fail: Vec<(Call, u64)>) -> Plan
-        ensures planned { result.fail ≡ fail }
-        ensures made { result.made ≡ none_made }
-        ensures none { result.faults ≡ 0 }
+        ensures planned { result ≡ fresh fail.items }
     {
         Plan {
             fail,
@@ -31,9 +38,8 @@ impl Plan {
 
     // Counts a call, and tells whether it is to fail, which counts as a fault.
     pub fn fails(&mut self, call: Call) -> bool
-        ensures planned { IsTrue result ↔ Contains self.old.fail.items (call, next_number self.old.made call) }
-        ensures counted { self.new.made ≡ slice_set self.old.made (place_of_call call) (next_number self.old.made call) }
-        ensures kept { self.new.fail ≡ self.old.fail }
+        ensures due { IsTrue result ↔ IsDue call self.old }
+        ensures made { WasMade call self.old self.new }
         ensures later { self.old.faults ≤ self.new.faults }
         ensures rose { IsTrue result → Rose self.old.faults self.new.faults }
     {

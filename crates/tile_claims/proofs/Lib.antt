@@ -1,0 +1,8 @@
+pub mod Cutting
+mod Totals
+pub mod Numbers
+mod Keeping
+mod Dealing
+mod Handed
+mod Places
+mod Ruling
