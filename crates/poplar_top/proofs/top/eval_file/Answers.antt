@@ -1,0 +1,20 @@
+use Rattle.std.proofs.Common.{◌≡◌, map, sym, subst}
+use Rattle.std.specs.String.{string_bytes}
+use Rattle.poplar_top.specs.Settings.{EvalSettings, eval_words}
+use Rattle.poplar_top.specs.Outcomes.{eval_settled, eval_told}
+use Rattle.poplar_top.specs.Stops.{stop_status}
+use Rattle.poplar_top.specs.Statuses.{ErrGets}
+use Rattle.poplar_top.proofs.TopSteps.{eval_stop}
+use Rattle.poplar_top.proofs.top.eval_file.Goals as goal
+
+pub returns-in-Err-clause-err : goal.returns-in-Err-clause-err
+returns-in-Err-clause-err g c =
+    let files = g.H.Shelf.files c.args.shelf.now in
+    let before = g.E.Sink.taken c.args.err.now in
+    let now = g.E.Sink.taken c.tell_stop.new.err in
+    let asked = c.in-Some.asked in
+    let settings : EvalSettings = record { side = asked.side; prefix = asked.prefix; file = asked.file.now } in
+    let told : ErrGets (eval_told settings files) (stop_status c.in-Err.stop) before now =
+    eval_stop settings files c.in-Err.stop before now c.in-Err.ensures.refused c.tell_stop.ensures.line in
+    let settled = subst (λ s. ErrGets (eval_settled s files) (stop_status c.in-Err.stop) before now) c.in-Some.ensures.value told in
+    subst (λ n. ErrGets (eval_settled (eval_words (map string_bytes c.args.words.now)) files) n before now) (sym c.tell_stop.ensures.status) settled

@@ -1,0 +1,73 @@
+-- Which status may stand, and what is then written.
+use Rattle.std.specs.Prelude.{◌≡◌, ◌≢◌, ◌⊎◌, ℕ, List, ◌++◌, Option, codes, nat_eq, take, Bool, true, false, IsTrue, ◌||◌}
+use Rattle.std.specs.Bool.{if◌then◌else◌}
+use Rattle.shelf_io.specs.Texts.{Grew, GrewWithin}
+use Rattle.poplar_top.specs.Outcomes.{Outcome}
+use Rattle.poplar_top.specs.Outcomes.Outcome.{usage, refusal, texts, untold}
+use Rattle.poplar_top.specs.Refusals.{status_of, line_of}
+
+-- the status of the outcome itself; of what a shelf does not tell, any that an outcome has
+abbrev pub IsOwn : Outcome → ℕ → Type 0
+IsOwn usage status = status ≡ 2
+IsOwn (refusal r) status = status ≡ status_of r
+IsOwn (texts out err) status = status ≡ 0
+IsOwn untold status = (status ≡ 0) ⊎ (status ≡ 3) ⊎ (status ≡ 4)
+
+-- whether the shelf was asked by then
+abbrev pub asks_shelf : Outcome → Bool
+asks_shelf usage = false
+asks_shelf (refusal r) = true
+asks_shelf (texts out err) = true
+asks_shelf untold = true
+
+-- whether the sinks were written by then
+abbrev pub asks_sinks : Outcome → Bool
+asks_sinks usage = false
+asks_sinks (refusal r) = false
+asks_sinks (texts out err) = true
+asks_sinks untold = true
+
+-- The status is the outcome's own; or that of an object that was asked by then and whose count rose; or 8, for want of memory.
+abbrev pub MayStand : Outcome → Type 0 → Type 0 → ℕ → Type 0
+MayStand o shelf_rose sink_rose status =
+    IsOwn o status ⊎ ((status ≡ 6) × IsTrue (asks_shelf o) × shelf_rose) ⊎ ((status ≡ 10) × IsTrue (asks_sinks o) × sink_rose) ⊎ (status ≡ 8)
+
+-- out has the whole text on 0, a front of it on 8 and 10, and else nothing
+pub record Prints (before now : Option (List ℕ)) (text : List ℕ) (status : ℕ) : Type 0 where
+  pub whole : status ≡ 0 → Grew before now text
+  pub front : GrewWithin before now text
+  pub nothing : status ≢ 0 → status ≢ 8 → status ≢ 10 → now ≡ before
+
+-- what out gets
+abbrev pub OutGets : Outcome → ℕ → Option (List ℕ) → Option (List ℕ) → Type 0
+OutGets usage status before now = now ≡ before
+OutGets (refusal r) status before now = now ≡ before
+OutGets (texts out err) status before now = Prints before now out status
+OutGets untold status before now = status ≢ 0 → status ≢ 8 → status ≢ 10 → now ≡ before
+
+-- the line of a status that is no refusal's
+abbrev pub fault_line : ℕ → List ℕ
+fault_line status =
+    if nat_eq status 2 then codes "usage: poplar eval, gen, run, find, make, upgrade\n"
+    else if nat_eq status 6 then codes "shelf fault\n"
+    else if nat_eq status 8 then codes "want of memory\n"
+    else codes "sink fault\n"
+
+-- the statuses of objects that failed, and of want of memory
+abbrev pub is_fault : ℕ → Bool
+is_fault status = nat_eq status 6 || (nat_eq status 8 || nat_eq status 10)
+
+-- the line that is told at a status
+abbrev pub line_at : Outcome → ℕ → List ℕ
+line_at usage status = fault_line status
+line_at (refusal r) status = if is_fault status then fault_line status else line_of r
+line_at (texts out err) status = fault_line status
+line_at untold status = fault_line status
+
+-- on 0 err has its whole text; else a front of it, and behind that a front of the fault's line
+abbrev pub ErrGets : Outcome → ℕ → Option (List ℕ) → Option (List ℕ) → Type 0
+ErrGets (texts out err) status before now =
+    (status ≡ 0 → Grew before now err) × ((n m : ℕ) × Grew before now (take n err ++ take m (fault_line status)))
+ErrGets untold status before now = Unit {0}
+ErrGets usage status before now = GrewWithin before now (line_at usage status)
+ErrGets (refusal r) status before now = GrewWithin before now (line_at (refusal r) status)

@@ -1,0 +1,165 @@
+//! `eval`: the value of each report of a share file at a prefix, as texts in memory.
+//! The records are read one after another; a text is written only where the whole answer is there.
+
+ghost use Rattle.std.specs.Prelude.{◌≡◌, ◌≤◌, ◌*◌, ◌++◌, ◌<◌, length, slice_get, IfOk, IfErr, IfSome, OnOk};
+ghost use Rattle.std.specs.FinMap.{get};
+ghost use Rattle.shelf_io.specs.Faults.{Rose};
+ghost use Rattle.shelf_io.specs.Files.{IfThere};
+ghost use Rattle.share_format.specs.ShareFile.{records};
+ghost use Rattle.share_format.specs.Readings.{Fits};
+ghost use Rattle.poplar_top.specs.Outcomes.{eval_file_outcome};
+ghost use Rattle.poplar_top.specs.Outcomes.Outcome.{texts};
+ghost use Rattle.poplar_top.specs.EvalTexts.{value_lines, refused_lines, given_value, given_refusal, IsShort};
+ghost use Rattle.poplar_top.specs.Stops.{StopFits, IsNoRefusal, file_stop};
+ghost use Rattle.poplar_top.specs.Readers.{is_more, Went};
+ghost use Rattle.share_format.specs.Answers.{record_answer};
+
+use crate::lines::{refused_text, value_text};
+use crate::refusal::Refusal;
+use crate::stop::Stop;
+use crate::telling::Texts;
+use crate::words::EvalAsked;
+use prefix_bits::{Prefix, Side};
+use share_format::{FileError, Record, RecordReader};
+use shelf_io::Shelf;
+use std::alloc::{AllocError, Global};
+
+// Why a file of a side that is not read whole gives no text.
+fn stop_of_file(error: FileError, side: Side) -> Stop
+    ensures value { result ≡ file_stop side error }
+{
+    match error {
+        FileError::Missing => Stop::Refusal(Refusal::Missing { side }),
+        FileError::TooLong { .. } => Stop::Refusal(Refusal::TooLong { side }),
+        FileError::Header { at } => Stop::Refusal(Refusal::Header { side, at }),
+        FileError::Cut { at } => Stop::Refusal(Refusal::Cut { side, at }),
+        FileError::Shelf => Stop::Shelf,
+        FileError::Memory => Stop::Memory,
+    }
+}
+
+// Adds to the texts what a reader gave.
+fn add_given(
+    alloc: Global,
+    given: &Record,
+    side: Side,
+    prefix: &Prefix,
+    written: &mut Texts,
+) -> Result<(), AllocError>
+    requires bits { IsShort prefix.now given.now }
+    ensures out { OnOk result (written.new.out.items ≡ written.old.out.items ++ given_value side prefix.now given.now) }
+    ensures err { OnOk result (written.new.err.items ≡ written.old.err.items ++ given_refusal side given.now) }
+{
+    match given {
+        Record::Share(share) => {
+            let line = value_text(alloc, share, side, prefix)?;
+            written.out.extend_from_slice(line.as_bytes())
+        }
+        Record::Malformed(place) => {
+            let line = refused_text(alloc, side, *place)?;
+            written.err.extend_from_slice(line.as_bytes())
+        }
+        Record::End => Ok(()),
+    }
+}
+
+// Reads the next record and adds it to the texts. Tells whether there was one.
+#[tactic(auto, using(crate::proofs::ReaderSteps::reader_steps))]
+fn add_next<H: Shelf>(
+    alloc: Global,
+    shelf: &mut H,
+    reader: &mut RecordReader<'_>,
+    side: Side,
+    prefix: &Prefix,
+    written: &mut Texts,
+) -> Result<bool, Stop>
+    requires fits { Fits (H.files shelf.old) reader.old }
+    requires bits { length prefix.now ≤ 8 * reader.old.width }
+    ensures out { IfThere (H.files shelf.old) reader.old.name (λ bytes. IfOk result (λ more. written.new.out.items
+        ≡ written.old.out.items ++ given_value side prefix.now (record_answer reader.old.next (records reader.old.width bytes)))) }
+    ensures err { IfThere (H.files shelf.old) reader.old.name (λ bytes. IfOk result (λ more. written.new.err.items
+        ≡ written.old.err.items ++ given_refusal side (record_answer reader.old.next (records reader.old.width bytes)))) }
+    ensures more { IfOk result (λ more. Went more reader.old reader.new) }
+    ensures stop { IfThere (H.files shelf.old) reader.old.name (λ bytes. IfErr result IsNoRefusal) }
+    ensures fits { Fits (H.files shelf.new) reader.new }
+    ensures fault { IfErr result (λ stop. stop ≡ Stop.Shelf → Rose (H.faults shelf.old) (H.faults shelf.new)) }
+    ensures later { H.faults shelf.old ≤ H.faults shelf.new }
+    ensures kept { H.files shelf.new ≡ H.files shelf.old }
+{
+    let given = match reader.next(shelf) {
+        Ok(given) => given,
+        Err(error) => return Err(stop_of_file(error, side)),
+    };
+    if let Err(_) = add_given(alloc, &given, side, prefix, written) {
+        return Err(Stop::Memory);
+    }
+    Ok(is_more(&given))
+}
+
+// Whether a reader gave a record.
+fn is_more(given: &Record) -> bool
+    ensures value { result ≡ is_more given.now }
+{
+    match given {
+        Record::Share(_) | Record::Malformed(_) => true,
+        Record::End => false,
+    }
+}
+
+// The texts of all records, from a reader that stands before the first.
+#[tactic(auto, using(crate::proofs::EvalSteps::text_steps))]
+fn all_texts<H: Shelf>(
+    alloc: Global,
+    shelf: &mut H,
+    reader: &mut RecordReader<'_>,
+    side: Side,
+    prefix: &Prefix,
+) -> Result<Texts, Stop>
+    requires fits { Fits (H.files shelf.old) reader.old }
+    requires first { reader.old.next ≡ 0 }
+    requires bits { length prefix.now ≤ 8 * reader.old.width }
+    ensures out { IfThere (H.files shelf.old) reader.old.name (λ bytes. IfOk result (λ written. written.out.items
+        ≡ value_lines side prefix.now (records reader.old.width bytes))) }
+    ensures err { IfThere (H.files shelf.old) reader.old.name (λ bytes. IfOk result (λ written. written.err.items
+        ≡ refused_lines side (records reader.old.width bytes))) }
+    ensures stop { IfThere (H.files shelf.old) reader.old.name (λ bytes. IfErr result IsNoRefusal) }
+    ensures fault { IfErr result (λ stop. stop ≡ Stop.Shelf → Rose (H.faults shelf.old) (H.faults shelf.new)) }
+    ensures later { H.faults shelf.old ≤ H.faults shelf.new }
+    ensures kept { H.files shelf.new ≡ H.files shelf.old }
+{
+    let mut written = Texts {
+        out: Vec::new(alloc),
+        err: Vec::new(alloc),
+    };
+    while add_next(alloc, shelf, reader, side, prefix, &mut written)? {}
+    Ok(written)
+}
+
+/// The texts of `eval`, or why there are none, with the causes in their order: the file, the length of the prefix, the records.
+pub(crate) fn eval_texts<H: Shelf>(
+    alloc: Global,
+    asked: &EvalAsked<'_>,
+    shelf: &mut H,
+) -> Result<Texts, Stop>
+    ensures written { IfSome (H.files shelf.old) (λ held. IfOk result (λ written.
+        eval_file_outcome (record { side = asked.now.side; prefix = asked.now.prefix; file = asked.now.file.now }) (get held asked.now.file.now)
+        ≡ texts written.out.items written.err.items)) }
+    ensures refused { IfSome (H.files shelf.old) (λ held. IfErr result (λ stop.
+        StopFits (eval_file_outcome (record { side = asked.now.side; prefix = asked.now.prefix; file = asked.now.file.now }) (get held asked.now.file.now)) stop)) }
+    ensures fault { IfErr result (λ stop. stop ≡ Stop.Shelf → Rose (H.faults shelf.old) (H.faults shelf.new)) }
+    ensures later { H.faults shelf.old ≤ H.faults shelf.new }
+    ensures kept { H.files shelf.new ≡ H.files shelf.old }
+{
+    let mut reader = match RecordReader::open(alloc, shelf, asked.file, asked.side) {
+        Ok(reader) => reader,
+        Err(error) => return Err(stop_of_file(error, asked.side)),
+    };
+    let width = reader.width();
+    if asked.prefix.len() > 8 * u16::from(width) {
+        return Err(Stop::Refusal(Refusal::LongPrefix {
+            bits: asked.prefix.len(),
+            width,
+        }));
+    }
+    all_texts(alloc, shelf, &mut reader, asked.side, &asked.prefix)
+}

@@ -1,0 +1,15 @@
+//! The top call of the program: words, shelf, sinks, link and gate in, a status out.
+//! Its contract says for every command which text is written and which status may stand.
+#![tactic(auto)]
+
+mod eval;
+mod lines;
+mod refusal;
+mod stop;
+mod telling;
+mod top;
+mod values;
+mod words;
+
+pub use crate::refusal::Refusal;
+pub use crate::top::{eval_file, poplar};

@@ -1,0 +1,9 @@
+pub mod FailingLaws
+pub mod BlockLaws
+pub mod RecordSteps
+pub mod RecordLaws
+pub mod WritingSteps
+pub mod HeaderSteps
+pub mod FileLaws
+pub mod ReaderSteps
+pub mod ReaderLaws

@@ -1,0 +1,7 @@
+pub mod Spelling
+pub mod ShareFile
+pub mod Refusals
+pub mod Readings
+pub mod Causes
+pub mod Answers
+pub mod Laws
