@@ -1,5 +1,5 @@
 -- What a reader's answers say of the reader and of the reasons to stop.
-use Rattle.std.proofs.Common.{◌≡◌, Result, Ok, Err, refl}
+use Rattle.std.proofs.Common.{◌≡◌, Result, Ok, Err, refl, inl}
 use Rattle.definitions.specs.declared.Side.{Side}
 use Rattle.share_format.specs.declared.file_error.FileError.{FileError}
 use Rattle.share_format.specs.declared.file_error.FileError.TheVariants as errors
@@ -11,7 +11,7 @@ use Rattle.share_format.specs.Causes.{Gives}
 use Rattle.poplar_top.specs.declared.stop.Stop.{Stop}
 use Rattle.poplar_top.specs.declared.stop.Stop.TheVariants as stops
 use Rattle.poplar_top.specs.Readers.{is_more, Went}
-use Rattle.poplar_top.specs.Stops.{IsNoRefusal, file_stop}
+use Rattle.poplar_top.specs.Stops.{IsNoRefusal, IsEvalStop, file_stop}
 
 pub went : (old new : Reading) (r : Record) → Stands old (Ok r) new → Went (is_more r) old new
 went old new (given.Share share) h = h
@@ -40,4 +40,15 @@ shelf_named side errors.Memory h = cc
 pub given_is : (r defined : Record) → Gives {X = Record} (Ok r) (Ok defined) → r ≡ defined
 given_is r defined h = cc
 
-pub ruleset reader_steps = (went, no_refusal, shelf_named)
+
+
+-- what a file's refusal says of the status
+pub file_stop-eval : (side : Side) (e : FileError) → IsEvalStop (file_stop side e)
+file_stop-eval side errors.Missing = inl refl
+file_stop-eval side (errors.TooLong length) = inl refl
+file_stop-eval side (errors.Header at) = inl refl
+file_stop-eval side (errors.Cut at) = inl refl
+file_stop-eval side errors.Shelf = tt
+file_stop-eval side errors.Memory = tt
+
+pub ruleset reader_steps = (went, no_refusal, shelf_named, file_stop-eval)

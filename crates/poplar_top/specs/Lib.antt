@@ -6,3 +6,4 @@ pub mod Readers
 pub mod Outcomes
 pub mod Statuses
 pub mod Stops
+pub mod Makings

@@ -1,20 +1,26 @@
 -- What the words and the told files come to, with the causes in their order.
-use Rattle.std.specs.Prelude.{ℕ, ◌*◌, List, Option, None, Some, length, nat_lt}
+use Rattle.std.specs.Prelude.{ℕ, ◌*◌, ◌^◌, List, Option, None, Some, codes, length, nat_lt}
+use Rattle.std.specs.Str.{bytes_eq}
 use Rattle.std.specs.Bool.{if◌then◌else◌}
 use Rattle.std.specs.FinMap.{get}
 use Rattle.shelf_io.specs.Files.{Files}
 use Rattle.share_format.specs.ShareFile.{FileCase, too_long, header_wrong, cut, whole, file_case, records}
-use Rattle.poplar_top.specs.Settings.{EvalSettings, eval_words}
+use Rattle.text_strings.specs.Lines.{LinesCase, too_many, line_long, zero_byte, strings, lines_case}
+use Rattle.pair_files.specs.Made.{zero_text, one_text}
+use Rattle.poplar_top.specs.Settings.{EvalSettings, eval_words, GenSettings, gen_words, word_at}
 use Rattle.poplar_top.specs.EvalTexts.{value_lines, refused_lines}
 use Rattle.poplar_top.specs.declared.refusal.Refusal.{Refusal}
-use Rattle.poplar_top.specs.declared.refusal.Refusal.TheVariants.{Missing, TooLong, Header, Cut, LongPrefix}
+use Rattle.poplar_top.specs.declared.refusal.Refusal.TheVariants.{Missing, TooLong, Header, Cut, LongPrefix, NoStrings, StringsLong, TooMany, LineLong, ZeroByte}
 
--- the words give no settings; a refusal; the texts of out and of err; or nothing is said, since the shelf does not tell
+-- The words give no settings; a refusal; the texts of out and of err; two names and the texts that they are to hold; or
+-- nothing is said, since the shelf does not tell what `eval` or `gen` was to read.
 pub data Outcome : Type 0 where
   usage : Outcome
   refusal : Refusal → Outcome
   texts : List ℕ → List ℕ → Outcome
-  untold : Outcome
+  writes : List ℕ → List ℕ → List ℕ → List ℕ → Outcome
+  untold_eval : Outcome
+  untold_gen : Outcome
 
 -- `eval` of a file's bytes in the case that they are
 abbrev pub eval_case : EvalSettings → List ℕ → FileCase → Outcome
@@ -31,13 +37,51 @@ eval_file_outcome settings None = refusal (Missing settings.side)
 eval_file_outcome settings (Some bytes) = eval_case settings bytes (file_case settings.side bytes)
 
 abbrev pub eval_told : EvalSettings → Option Files → Outcome
-eval_told settings None = untold
+eval_told settings None = untold_eval
 eval_told settings (Some held) = eval_file_outcome settings (get held settings.file)
 
 abbrev pub eval_settled : Option EvalSettings → Option Files → Outcome
 eval_settled None files = usage
 eval_settled (Some settings) files = eval_told settings files
 
--- what the words and the told files come to
+abbrev pub eval_outcome : List (List ℕ) → Option Files → Outcome
+eval_outcome words files = eval_settled (eval_words words) files
+
+-- ---- gen
+
+-- `gen` of what the strings file holds
+abbrev pub gen_case : GenSettings → LinesCase → Outcome
+gen_case settings (too_many lines) = refusal (TooMany lines)
+gen_case settings (line_long line) = refusal (LineLong line)
+gen_case settings (zero_byte line) = refusal (ZeroByte line)
+gen_case settings (strings them) =
+    writes settings.zero (zero_text settings.width settings.master settings.tag them)
+    settings.one (one_text settings.width settings.master settings.tag them)
+
+-- the most bytes of a strings file
+abbrev pub most_string_bytes : ℕ
+most_string_bytes = 2 ^ 28
+
+-- `gen` of the strings file, where it is there
+abbrev pub gen_file_outcome : GenSettings → Option (List ℕ) → Outcome
+gen_file_outcome settings None = refusal NoStrings
+gen_file_outcome settings (Some bytes) =
+    if nat_lt most_string_bytes (length bytes) then refusal StringsLong else gen_case settings (lines_case settings.width bytes)
+
+abbrev pub gen_told : GenSettings → Option Files → Outcome
+gen_told settings None = untold_gen
+gen_told settings (Some held) = gen_file_outcome settings (get held settings.strings)
+
+abbrev pub gen_settled : Option GenSettings → Option Files → Outcome
+gen_settled None files = usage
+gen_settled (Some settings) files = gen_told settings files
+
+abbrev pub gen_outcome : List (List ℕ) → Option Files → Outcome
+gen_outcome words files = gen_settled (gen_words words) files
+
+-- ---- all commands
+
+-- what the words and the told files come to, by the first word; every command that is not built is usage
 abbrev pub outcome : List (List ℕ) → Option Files → Outcome
-outcome words files = eval_settled (eval_words words) files
+outcome words files =
+    if bytes_eq (word_at words 0) (codes "gen") then gen_outcome words files else eval_outcome words files

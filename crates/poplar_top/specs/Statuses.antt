@@ -1,9 +1,12 @@
 -- Which status may stand, and what is then written.
 use Rattle.std.specs.Prelude.{◌≡◌, ◌≢◌, ◌⊎◌, ℕ, List, ◌++◌, Option, codes, nat_eq, take, Bool, true, false, IsTrue, ◌||◌}
 use Rattle.std.specs.Bool.{if◌then◌else◌}
+use Rattle.std.specs.Option.{option_map}
+use Rattle.shelf_io.specs.Files.{Files}
+use Rattle.pair_files.specs.PairFiles.{with_both, HoldFronts}
 use Rattle.shelf_io.specs.Texts.{Grew, GrewWithin}
 use Rattle.poplar_top.specs.Outcomes.{Outcome}
-use Rattle.poplar_top.specs.Outcomes.Outcome.{usage, refusal, texts, untold}
+use Rattle.poplar_top.specs.Outcomes.Outcome.{usage, refusal, texts, writes, untold_eval, untold_gen}
 use Rattle.poplar_top.specs.Refusals.{status_of, line_of}
 
 -- the status of the outcome itself; of what a shelf does not tell, any that an outcome has
@@ -11,21 +14,27 @@ abbrev pub IsOwn : Outcome → ℕ → Type 0
 IsOwn usage status = status ≡ 2
 IsOwn (refusal r) status = status ≡ status_of r
 IsOwn (texts out err) status = status ≡ 0
-IsOwn untold status = (status ≡ 0) ⊎ (status ≡ 3) ⊎ (status ≡ 4)
+IsOwn (writes zero_name zero_text one_name one_text) status = status ≡ 0
+IsOwn untold_eval status = (status ≡ 0) ⊎ (status ≡ 3) ⊎ (status ≡ 4)
+IsOwn untold_gen status = (status ≡ 0) ⊎ (status ≡ 11)
 
 -- whether the shelf was asked by then
 abbrev pub asks_shelf : Outcome → Bool
 asks_shelf usage = false
 asks_shelf (refusal r) = true
 asks_shelf (texts out err) = true
-asks_shelf untold = true
+asks_shelf (writes zero_name zero_text one_name one_text) = true
+asks_shelf untold_eval = true
+asks_shelf untold_gen = true
 
 -- whether the sinks were written by then
 abbrev pub asks_sinks : Outcome → Bool
 asks_sinks usage = false
 asks_sinks (refusal r) = false
 asks_sinks (texts out err) = true
-asks_sinks untold = true
+asks_sinks (writes zero_name zero_text one_name one_text) = false
+asks_sinks untold_eval = true
+asks_sinks untold_gen = false
 
 -- The status is the outcome's own; or that of an object that was asked by then and whose count rose; or 8, for want of memory.
 abbrev pub MayStand : Outcome → Type 0 → Type 0 → ℕ → Type 0
@@ -43,7 +52,9 @@ abbrev pub OutGets : Outcome → ℕ → Option (List ℕ) → Option (List ℕ)
 OutGets usage status before now = now ≡ before
 OutGets (refusal r) status before now = now ≡ before
 OutGets (texts out err) status before now = Prints before now out status
-OutGets untold status before now = status ≢ 0 → status ≢ 8 → status ≢ 10 → now ≡ before
+OutGets (writes zero_name zero_text one_name one_text) status before now = now ≡ before
+OutGets untold_eval status before now = status ≢ 0 → status ≢ 8 → status ≢ 10 → now ≡ before
+OutGets untold_gen status before now = now ≡ before
 
 -- the line of a status that is no refusal's
 abbrev pub fault_line : ℕ → List ℕ
@@ -62,12 +73,29 @@ abbrev pub line_at : Outcome → ℕ → List ℕ
 line_at usage status = fault_line status
 line_at (refusal r) status = if is_fault status then fault_line status else line_of r
 line_at (texts out err) status = fault_line status
-line_at untold status = fault_line status
+line_at (writes zero_name zero_text one_name one_text) status = fault_line status
+line_at untold_eval status = fault_line status
+line_at untold_gen status = fault_line status
 
 -- on 0 err has its whole text; else a front of it, and behind that a front of the fault's line
 abbrev pub ErrGets : Outcome → ℕ → Option (List ℕ) → Option (List ℕ) → Type 0
 ErrGets (texts out err) status before now =
     (status ≡ 0 → Grew before now err) × ((n m : ℕ) × Grew before now (take n err ++ take m (fault_line status)))
-ErrGets untold status before now = Unit {0}
+ErrGets (writes zero_name zero_text one_name one_text) status before now =
+    (status ≡ 0 → now ≡ before) × GrewWithin before now (fault_line status)
+ErrGets untold_eval status before now = Unit {0}
+ErrGets untold_gen status before now = Unit {0}
 ErrGets usage status before now = GrewWithin before now (line_at usage status)
 ErrGets (refusal r) status before now = GrewWithin before now (line_at (refusal r) status)
+
+-- What a shelf holds afterwards: as before, but for the two names of `gen`, which hold their texts on 0, and else are as
+-- before or hold fronts of their texts.
+abbrev pub ShelfGets : Outcome → ℕ → Option Files → Option Files → Type 0
+ShelfGets (writes zero_name zero_text one_name one_text) status before now =
+    (status ≡ 0 → now ≡ option_map (with_both zero_name zero_text one_name one_text) before)
+    × (status ≢ 0 → HoldFronts before now zero_name zero_text one_name one_text)
+ShelfGets usage status before now = now ≡ before
+ShelfGets (refusal r) status before now = now ≡ before
+ShelfGets (texts out err) status before now = now ≡ before
+ShelfGets untold_eval status before now = now ≡ before
+ShelfGets untold_gen status before now = Unit {0}

@@ -10,7 +10,7 @@ ghost use Rattle.share_format.specs.Readings.{Fits};
 ghost use Rattle.poplar_top.specs.Outcomes.{eval_file_outcome};
 ghost use Rattle.poplar_top.specs.Outcomes.Outcome.{texts};
 ghost use Rattle.poplar_top.specs.EvalTexts.{value_lines, refused_lines, given_value, given_refusal, IsShort};
-ghost use Rattle.poplar_top.specs.Stops.{StopFits, IsNoRefusal, file_stop};
+ghost use Rattle.poplar_top.specs.Stops.{StopFits, IsNoRefusal, IsEvalStop, file_stop};
 ghost use Rattle.poplar_top.specs.Readers.{is_more, Went};
 ghost use Rattle.share_format.specs.Answers.{record_answer};
 
@@ -82,6 +82,7 @@ fn add_next<H: Shelf>(
     ensures more { IfOk result (λ more. Went more reader.old reader.new) }
     ensures stop { IfThere (H.files shelf.old) reader.old.name (λ bytes. IfErr result IsNoRefusal) }
     ensures fits { Fits (H.files shelf.new) reader.new }
+    ensures own { IfErr result IsEvalStop }
     ensures fault { IfErr result (λ stop. stop ≡ Stop.Shelf → Rose (H.faults shelf.old) (H.faults shelf.new)) }
     ensures later { H.faults shelf.old ≤ H.faults shelf.new }
     ensures kept { H.files shelf.new ≡ H.files shelf.old }
@@ -123,6 +124,7 @@ fn all_texts<H: Shelf>(
     ensures err { IfThere (H.files shelf.old) reader.old.name (λ bytes. IfOk result (λ written. written.err.items
         ≡ refused_lines side (records reader.old.width bytes))) }
     ensures stop { IfThere (H.files shelf.old) reader.old.name (λ bytes. IfErr result IsNoRefusal) }
+    ensures own { IfErr result IsEvalStop }
     ensures fault { IfErr result (λ stop. stop ≡ Stop.Shelf → Rose (H.faults shelf.old) (H.faults shelf.new)) }
     ensures later { H.faults shelf.old ≤ H.faults shelf.new }
     ensures kept { H.files shelf.new ≡ H.files shelf.old }
@@ -136,6 +138,7 @@ fn all_texts<H: Shelf>(
 }
 
 /// The texts of `eval`, or why there are none, with the causes in their order: the file, the length of the prefix, the records.
+#[tactic(auto, using(crate::proofs::ReaderSteps::reader_steps))]
 pub(crate) fn eval_texts<H: Shelf>(
     alloc: Global,
     asked: &EvalAsked<'_>,
@@ -146,6 +149,7 @@ pub(crate) fn eval_texts<H: Shelf>(
         ≡ texts written.out.items written.err.items)) }
     ensures refused { IfSome (H.files shelf.old) (λ held. IfErr result (λ stop.
         StopFits (eval_file_outcome (record { side = asked.now.side; prefix = asked.now.prefix; file = asked.now.file.now }) (get held asked.now.file.now)) stop)) }
+    ensures own { IfErr result IsEvalStop }
     ensures fault { IfErr result (λ stop. stop ≡ Stop.Shelf → Rose (H.faults shelf.old) (H.faults shelf.new)) }
     ensures later { H.faults shelf.old ≤ H.faults shelf.new }
     ensures kept { H.files shelf.new ≡ H.files shelf.old }

@@ -3,6 +3,7 @@
 #![tactic(auto)]
 
 mod eval;
+mod generation;
 mod lines;
 mod refusal;
 mod stop;
@@ -12,4 +13,4 @@ mod values;
 mod words;
 
 pub use crate::refusal::Refusal;
-pub use crate::top::{eval_file, poplar};
+pub use crate::top::{eval_file, gen_files, poplar};

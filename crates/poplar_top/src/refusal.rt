@@ -43,6 +43,25 @@ pub enum Refusal {
         /// The width of the strings, in bytes.
         width: u8,
     },
+    /// The strings file is not there.
+    NoStrings,
+    /// The strings file has more than 2^28 bytes.
+    StringsLong,
+    /// The shares of so many strings do not fit a share file.
+    TooMany {
+        /// The number of lines.
+        lines: u32,
+    },
+    /// A line has more bytes than the width.
+    LineLong {
+        /// The first line at fault, counted from 0.
+        line: u32,
+    },
+    /// A line has a zero byte.
+    ZeroByte {
+        /// The first line at fault, counted from 0.
+        line: u32,
+    },
 }
 
 /// A side's number.
@@ -60,8 +79,16 @@ pub(crate) fn status(refusal: Refusal) -> u8
     ensures value { result ≡ status_of refusal }
 {
     match refusal {
+        Refusal::Missing { .. }
+        | Refusal::TooLong { .. }
+        | Refusal::Header { .. }
+        | Refusal::Cut { .. } => 3,
         Refusal::LongPrefix { .. } => 4,
-        _ => 3,
+        Refusal::NoStrings
+        | Refusal::StringsLong
+        | Refusal::TooMany { .. }
+        | Refusal::LineLong { .. }
+        | Refusal::ZeroByte { .. } => 11,
     }
 }
 
@@ -89,5 +116,10 @@ pub(crate) fn line(alloc: Global, refusal: Refusal) -> Result<String, AllocError
         Refusal::LongPrefix { bits, width } => {
             format!(in alloc; "prefix of {bits} bits is longer than width {width}\n")
         }
+        Refusal::NoStrings => "strings: not there\n".to_owned(alloc),
+        Refusal::StringsLong => "strings: file too long\n".to_owned(alloc),
+        Refusal::TooMany { lines } => format!(in alloc; "strings: {lines} lines are too many\n"),
+        Refusal::LineLong { line } => format!(in alloc; "strings: line {line} is too long\n"),
+        Refusal::ZeroByte { line } => format!(in alloc; "strings: line {line} has a zero byte\n"),
     }
 }

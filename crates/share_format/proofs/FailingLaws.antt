@@ -1,4 +1,5 @@
 -- Laws of the first number that fails a test.
+use Rattle.std.specs.Prelude.{◌&&◌}
 use Rattle.std.proofs.Common.{◌≡◌, ℕ, zero, suc, ◌+◌, ◌<◌, Bool, true, false, cond, Option, None, Some, refl, subst, inl, inr, ap, sym, add-one, arith}
 use Rattle.std.specs.Option.{option_or}
 use Rattle.std.proofs.lemmas.Bool.{cases_lt}
@@ -44,3 +45,9 @@ unfolding first_failing
 first_failing-same f g zero same = refl
 first_failing-same f g (suc count) same =
     rw (first_failing-same f g count (λ place p. same place (omega (arith, p))), same count (omega arith)) refl
+
+-- both of two tests that pass together
+pub both_pass : (b c : Bool) → (b && c) ≡ true → (b ≡ true) × (c ≡ true)
+both_pass true true e = (refl, refl)
+both_pass true false e = absurd cc
+both_pass false c e = absurd cc

@@ -1,7 +1,7 @@
 -- What the length and the header of a file say of its case, and its records by their numbers.
 use Rattle.std.proofs.lemmas.Option.{slice_get-get_or, slice_get_past}
 use Rattle.std.proofs.lemmas.Bool.{cases_lt}
-use Rattle.std.proofs.Common.{◌≡◌, ◌≢◌, ℕ, ◌+◌, ◌*◌, ◌-◌, ◌/◌, ◌%◌, ◌<◌, ◌≤◌, Bool, true, false, List, length, get_or, take, Option, None, Some, refl, sym, ap, ap₂, ◌∙◌, arith, eqb, ltb, zero, suc, ◌++◌, ◌∷◌, [], inl, inr}
+use Rattle.std.proofs.Common.{◌≡◌, ◌≢◌, ℕ, ◌+◌, ◌*◌, ◌-◌, ◌/◌, ◌%◌, ◌<◌, ◌≤◌, Bool, true, false, List, length, get_or, take, Option, None, Some, refl, sym, ap, ap₂, ◌∙◌, arith, eqb, ltb, zero, suc, ◌++◌, ◌∷◌, [], inl, inr, add-one}
 use Rattle.std.specs.Prelude.{◌&&◌, min, slice_get}
 use Rattle.std.proofs.lemmas.Bool.Decides.{nat_tests}
 use Rattle.std.proofs.lemmas.List.{get_or-take, length-take, get_or_append_left, get_or_at, length-append}
@@ -70,10 +70,7 @@ whole_file side bytes head size width len long p front e w l none =
     let all : eqb ((size - 8) % record_len width) 0 ≡ true = grind (arith, nat_tests) in
     (right_header side bytes head size width long p front e w ∙ rw all refl, rw (long, l) refl)
 
-add-one_is : (n : ℕ) → suc n ≡ n + 1
-add-one_is n = omega arith
-
-first_records-more : (width : ℕ) (bytes : List ℕ) (count : ℕ)
+pub first_records-more : (width : ℕ) (bytes : List ℕ) (count : ℕ)
     → first_records width bytes (suc count) ≡ first_records width bytes count ++ record_case width (record_at width bytes count) ∷ []
 unfolding first_records
 first_records-more width bytes count = refl
@@ -83,7 +80,7 @@ unfolding first_records
 length-first_records width bytes zero = refl
 length-first_records width bytes (suc count) =
     length-append (first_records width bytes count) (record_case width (record_at width bytes count) ∷ [])
-    ∙ ap (λ n. n + 1) (length-first_records width bytes count) ∙ sym (add-one_is count)
+    ∙ ap (λ n. n + 1) (length-first_records width bytes count) ∙ add-one count
 
 -- the case of the record of a number
 case_at : (width : ℕ) (bytes : List ℕ) (count number : ℕ) → number < count

@@ -1,13 +1,15 @@
 -- What the reader of a header cites.
-use Rattle.std.proofs.Common.{◌≡◌, ℕ, ◌+◌, ◌<◌, ◌≤◌, Bool, true, false, List, [], ◌∷◌, length, get_or, take, rules, None, Some, refl, ◌∙◌, arith, ltb}
-use Rattle.std.specs.Prelude.{◌&&◌, IsTrue}
+use Rattle.share_format.proofs.FileLaws.{header_fault-front}
+use Rattle.definitions.specs.declared.Side.TheVariants.{Zero, One}
+use Rattle.std.proofs.Common.{◌≡◌, ℕ, ◌+◌, ◌<◌, ◌≤◌, true, false, List, [], ◌∷◌, length, get_or, take, rules, None, Some, refl, ◌∙◌, arith, ltb, sym, ap}
+use Rattle.std.specs.Prelude.{IsTrue}
 use Rattle.std.proofs.lemmas.Bool.{ltb-true, eqb-true}
 use Rattle.std.proofs.lemmas.Bool.Decides.{nat_tests}
 use Rattle.definitions.specs.declared.Side.{Side}
 use Rattle.definitions.specs.Sides.{side_number}
 use Rattle.share_format.specs.Spelling.{header}
 use Rattle.share_format.specs.ShareFile.{first_failing, is_width, may_stand, is_header_byte, header_fault}
-use Rattle.share_format.proofs.FailingLaws.{first_failing-zero, first_failing-more, first_failing-found, first_failing-passed, first_failing-same}
+use Rattle.share_format.proofs.FailingLaws.{first_failing-zero, first_failing-more, first_failing-found, first_failing-passed, first_failing-same, both_pass}
 
 -- a byte that is there and may stand, after others that do
 pub header_passes : (side : Side) (bytes : List ℕ) (at : ℕ) → first_failing (is_header_byte side bytes) at ≡ None → at < length bytes
@@ -30,14 +32,9 @@ byte_wrong side bytes at p none inside wrong =
     let there : ltb at (length bytes) ≡ true = grind (arith, nat_tests) in
     first_failing-found (is_header_byte side bytes) 8 at p none (rw (there, wrong) refl)
 
-both : (b c : Bool) → (b && c) ≡ true → (b ≡ true) × (c ≡ true)
-both true true e = (refl, refl)
-both true false e = absurd cc
-both false c e = absurd cc
-
 -- a byte of a right header
 stands : (side : Side) (bytes : List ℕ) (at : ℕ) → is_header_byte side bytes at ≡ true → (at < length bytes) × (may_stand side at (get_or bytes at 0) ≡ true)
-stands side bytes at e = let parts = both _ _ e in (ltb-true at (length bytes) parts.0, parts.1)
+stands side bytes at e = let parts = both_pass _ _ e in (ltb-true at (length bytes) parts.0, parts.1)
 
 -- eight bytes at the front
 eight : (xs : List ℕ) → 8 ≤ length xs
@@ -85,5 +82,14 @@ right_width side bytes none =
 -- the length of bytes with a header without a fault
 pub right_length : (side : Side) (bytes : List ℕ) → header_fault side bytes ≡ None → 8 ≤ length bytes
 right_length side bytes none = (stands side bytes 7 (first_failing-passed (is_header_byte side bytes) 7 none).1).0
+
+-- a header is without a fault
+header-right : (side : Side) (width : ℕ) → IsTrue (is_width width) → header_fault side (header side width) ≡ None
+unfolding first_failing
+header-right Zero width good = rw good refl
+header-right One width good = rw good refl
+
+pub header_law : (side : Side) (width : ℕ) (bytes : List ℕ) → IsTrue (is_width width) → take 8 bytes ≡ header side width → header_fault side bytes ≡ None
+header_law side width bytes good front = sym (header_fault-front side bytes) ∙ ap (header_fault side) front ∙ header-right side width good
 
 pub ruleset header_steps = (first_failing-zero, header_passes, byte_missing, byte_wrong, right_bytes, right_width)

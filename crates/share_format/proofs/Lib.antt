@@ -1,9 +1,12 @@
 pub mod FailingLaws
+pub mod PieceLaws
 pub mod BlockLaws
 pub mod RecordSteps
 pub mod RecordLaws
 pub mod WritingSteps
-pub mod HeaderSteps
 pub mod FileLaws
+pub mod HeaderSteps
+pub mod WholeLaws
 pub mod ReaderSteps
 pub mod ReaderLaws
+pub mod CallerLaws

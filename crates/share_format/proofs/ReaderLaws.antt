@@ -1,5 +1,5 @@
 -- What a told shelf makes of the answers of a reader.
-use Rattle.std.proofs.Common.{◌≡◌, ℕ, ◌-◌, ◌<◌, List, length, take, drop, Option, None, Some, Ok, Err, refl, sym, ap, subst, ◌∙◌, inl, inr, arith, ◌+◌}
+use Rattle.std.proofs.Common.{◌≡◌, ℕ, ◌-◌, ◌<◌, List, length, take, drop, Option, None, Some, Ok, Err, refl, sym, ap, subst, ◌∙◌, inl, inr, arith, ◌+◌, replicate, length-take}
 use Rattle.std.specs.Prelude.{min, IfSome, IsSome}
 use Rattle.std.specs.Option.{option_map}
 use Rattle.std.specs.FinMap.{get}
@@ -71,6 +71,10 @@ both_there : (told : Option Files) (name into : List ℕ) (found : Option ℕ) (
     → IfSome told (λ held. IsSome (get held name) × IfSome (get held name) (λ bytes. (length bytes ≡ size) × (take 8 bytes ≡ take filled into)))
 both_there None name into found size room filled is_it room_is h read = tt
 both_there (Some held) name into found size room filled is_it room_is h read = one_there into found size room filled (get held name) is_it room_is h read
+
+-- the room for the header
+pub length-room : (size room : ℕ) → room ≡ min size 8 → length (take room (replicate {A = ℕ} 8 0)) ≡ min size 8
+length-room size room e = omega (arith, length-take room (replicate {A = ℕ} 8 0))
 
 -- the file that the length and the front were read of
 pub front_there : (told mid : Option Files) (name into : List ℕ) (found : Option ℕ) (size room filled : ℕ) → mid ≡ told → found ≡ Some size

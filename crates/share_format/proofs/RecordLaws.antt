@@ -1,29 +1,20 @@
 -- A record and its share: each gives the other back.
-use Rattle.std.proofs.Common.{◌≡◌, ℕ, zero, suc, ◌+◌, ◌*◌, ◌-◌, ◌<◌, ◌≤◌, Bool, true, false, List, [], ◌∷◌, ◌++◌, length, get_or, take, drop, Option, None, Some, All, refl, sym, ap, ap₂, subst, ◌∙◌, append_assoc, inl, inr, arith}
-use Rattle.std.specs.Prelude.{◌&&◌}
+use Rattle.share_format.proofs.PieceLaws.{HaveLength, length-pieces, piece_at}
+use Rattle.std.proofs.Common.{◌≡◌, ℕ, zero, suc, ◌+◌, ◌*◌, ◌-◌, ◌<◌, ◌≤◌, true, List, [], ◌∷◌, ◌++◌, length, get_or, take, drop, Option, None, Some, All, refl, sym, ap, ap₂, subst, ◌∙◌, append_assoc, inl, inr, arith, add-one}
 use Rattle.std.specs.Option.{option_map}
 use Rattle.std.specs.List.{flat_map}
 use Rattle.std.proofs.lemmas.Bool.{cases_lt}
 use Rattle.std.proofs.lemmas.List.{append-nil, drop-drop, take_all, take_at, drop_at, get_or_past, length-take, length-drop, length-append, take-append-drop, take_more}
 use Rattle.std.proofs.lemmas.List.Concat.{flat_map-append}
-use Rattle.std.proofs.lemmas.List.Elements.{All-nil, All-head, All-tail, All-push, All-get_or}
+use Rattle.std.proofs.lemmas.List.Elements.{All-nil, All-push, All-get_or, All-weaker}
 use Rattle.std.proofs.Math.Seq.{take-add, drop-append-add}
 use Rattle.definitions.specs.Evaluation.{LevelWord, Share, no_word}
 use Rattle.share_format.specs.Spelling.{block, record_len, spelling}
 use Rattle.share_format.specs.ShareFile.{first_failing, has_bits, has_elements, word_of, block_at, is_level, fault_of, first_fault, words_in, share_of, Fault, well_formed, case_of, record_case}
 use Rattle.share_format.specs.Laws.{IsRecord, IsWord, IsShare}
-use Rattle.share_format.proofs.FailingLaws.{first_failing-zero, first_failing-passed}
+use Rattle.share_format.proofs.FailingLaws.{first_failing-zero, first_failing-passed, both_pass}
 use Rattle.share_format.proofs.BlockLaws.{AreBytes, AreBytes-drop, AreBytes-take, part_then_rest, block-word_of, length-block, word_of-block, has_bits-block, has_elements-block, IsWord-word_of}
 use Rattle.share_format.proofs.RecordSteps.{words_in-zero, words_in-more, level_passes}
-
-add-one_is : (n : ℕ) → suc n ≡ n + 1
-add-one_is n = omega arith
-
--- a level that breaks no rule has good bits and good numbers
-both_good : (b c : Bool) → (b && c) ≡ true → (b ≡ true) × (c ≡ true)
-both_good true true e = (refl, refl)
-both_good true false e = absurd cc
-both_good false c e = absurd cc
 
 -- the block of a level is 65 of the bytes behind the first 80
 block_at-is : (bytes : List ℕ) (place : ℕ) → block_at bytes place ≡ take 65 (drop (80 + 65 * place) bytes)
@@ -45,7 +36,7 @@ blocks-words_in : (bytes : List ℕ) (levels count : ℕ) → AreBytes bytes →
 blocks-words_in bytes levels zero fit inside p none = rw (words_in-zero bytes) refl
 blocks-words_in bytes levels (suc count) fit inside p none =
     let before = first_failing-passed (is_level bytes) count none in
-    let good : (has_bits (block_at bytes count) ≡ true) × (has_elements (block_at bytes count) ≡ true) = both_good _ _ before.1 in
+    let good : (has_bits (block_at bytes count) ≡ true) × (has_elements (block_at bytes count) ≡ true) = both_pass _ _ before.1 in
     let so_far = blocks-words_in bytes levels count fit inside (omega arith) before.0 in
     let now : block (word_of (block_at bytes count)) ≡ block_at bytes count =
     block-word_of (block_at bytes count) (length-block_at bytes levels count inside (omega arith)) (AreBytes-block_at bytes count fit) good.0 in
@@ -56,7 +47,7 @@ blocks-words_in bytes levels (suc count) fit inside p none =
     let place : take 65 (drop (80 + 65 * count) bytes) ≡ take 65 (drop (65 * count) (drop 80 bytes)) =
     ap (λ (t : List ℕ). take 65 t) (sym (drop-drop (65 * count) 80 bytes)) in
     let more : 65 * count + 65 ≡ 65 * suc count = omega arith in
-    subst (λ n. flat_map block (words_in bytes n) ≡ take (65 * suc count) (drop 80 bytes)) (sym (add-one_is count))
+    subst (λ n. flat_map block (words_in bytes n) ≡ take (65 * suc count) (drop 80 bytes)) (add-one count)
     (step
     ∙ ap₂ (λ (s t : List ℕ). s ++ t) so_far (now ∙ block_at-is bytes count ∙ place)
     ∙ sym (take-add (65 * count) 65 (drop 80 bytes))
@@ -80,7 +71,7 @@ pub length-words_in : (bytes : List ℕ) (count : ℕ) → length (words_in byte
 length-words_in bytes zero = rw (words_in-zero bytes) refl
 length-words_in bytes (suc count) =
     let so_far = length-words_in bytes count in
-    subst (λ n. length (words_in bytes n) ≡ n) (sym (add-one_is count))
+    subst (λ n. length (words_in bytes n) ≡ n) (add-one count)
     (ap length (words_in-more bytes count) ∙ length-append (words_in bytes count) (word_of (block_at bytes count) ∷ []) ∙ ap (λ n. n + 1) so_far)
 
 -- what levels that break no rule say are words
@@ -89,11 +80,11 @@ IsWord-words_in : (bytes : List ℕ) (levels count : ℕ) → 80 + 65 * levels �
 IsWord-words_in bytes levels zero inside p none = subst (λ (ws : List LevelWord). All IsWord ws) (sym (words_in-zero bytes)) (All-nil IsWord)
 IsWord-words_in bytes levels (suc count) inside p none =
     let before = first_failing-passed (is_level bytes) count none in
-    let good : (has_bits (block_at bytes count) ≡ true) × (has_elements (block_at bytes count) ≡ true) = both_good _ _ before.1 in
+    let good : (has_bits (block_at bytes count) ≡ true) × (has_elements (block_at bytes count) ≡ true) = both_pass _ _ before.1 in
     let so_far = IsWord-words_in bytes levels count inside (omega arith) before.0 in
     let now : IsWord (word_of (block_at bytes count)) =
     IsWord-word_of (block_at bytes count) (length-block_at bytes levels count inside (omega arith)) good.1 in
-    subst (λ n. All IsWord (words_in bytes n)) (sym (add-one_is count))
+    subst (λ n. All IsWord (words_in bytes n)) (add-one count)
     (subst (λ (ws : List LevelWord). All IsWord ws) (sym (words_in-more bytes count)) (All-push IsWord (words_in bytes count) (word_of (block_at bytes count)) so_far now))
 
 -- a record's case by its first fault
@@ -142,24 +133,9 @@ pub spelling-fields : (width : ℕ) (bytes id root corr : List ℕ) (levels : Li
 spelling-fields width bytes id root corr levels long fit none e f g h =
     rw (e, f, g, h) (spelling-share_of width bytes long fit (none-map (fault_of bytes) (first_failing (is_level bytes) (8 * width)) none))
 
--- the block of a level of the blocks of words
-block-flat_map : (words : List LevelWord) (place : ℕ) → All IsWord words → place < length words
-    → take 65 (drop (65 * place) (flat_map block words)) ≡ block (get_or words place no_word)
-block-flat_map [] place fits p = absurd (omega arith)
-block-flat_map (word ∷ words) zero fits p = take_at (block word) (flat_map block words) 65 (length-block word (All-head IsWord word words fits))
-block-flat_map (word ∷ words) (suc place) fits p =
-    let long : length (block word) ≡ 65 = length-block word (All-head IsWord word words fits) in
-    let more : 65 * suc place ≡ length (block word) + 65 * place = omega arith in
-    ap (λ n. take 65 (drop n (block word ++ flat_map block words))) more
-    ∙ ap (λ (t : List ℕ). take 65 t) (drop-append-add (block word) (flat_map block words) (65 * place))
-    ∙ block-flat_map words place (All-tail IsWord word words fits) (omega arith)
-
-length-blocks : (words : List LevelWord) → All IsWord words → length (flat_map block words) ≡ 65 * length words
-length-blocks [] fits = refl
-length-blocks (word ∷ words) fits =
-    let long = length-block word (All-head IsWord word words fits) in
-    let rest = length-blocks words (All-tail IsWord word words fits) in
-    omega (arith, length-append (block word) (flat_map block words))
+-- the blocks of words have one length
+same_lengths : (words : List LevelWord) → All IsWord words → HaveLength block 65 words
+same_lengths words fits = All-weaker IsWord (λ word. length (block word) ≡ 65) length-block words fits
 
 -- the part before the blocks
 front_of : Share → List ℕ
@@ -179,7 +155,7 @@ length-front_of width share fits =
 pub length-spelling : (width : ℕ) (share : Share) → IsShare width share → length (spelling share) ≡ record_len width
 length-spelling width share fits =
     ap length (spelling-front share)
-    ∙ omega (arith, length-append (front_of share) (flat_map block share.levels), length-front_of width share fits, length-blocks share.levels fits.words, fits.levels)
+    ∙ omega (arith, length-append (front_of share) (flat_map block share.levels), length-front_of width share fits, length-pieces block 65 share.levels (same_lengths share.levels fits.words), fits.levels)
 
 block_at-spelling : (width : ℕ) (share : Share) (place : ℕ) → IsShare width share → place < 8 * width
     → block_at (spelling share) place ≡ block (get_or share.levels place no_word)
@@ -192,7 +168,7 @@ block_at-spelling width share place fits p =
     block_at-is (spelling share) place
     ∙ ap (λ (t : List ℕ). take 65 (drop (80 + 65 * place) t)) (spelling-front share)
     ∙ ap (λ (t : List ℕ). take 65 t) behind
-    ∙ block-flat_map share.levels place fits.words inside
+    ∙ piece_at block 65 share.levels place no_word (same_lengths share.levels fits.words) inside
 
 -- no level of a spelling breaks a rule
 spelling-passes : (width : ℕ) (share : Share) (count : ℕ) → IsShare width share → count ≤ 8 * width → first_failing (is_level (spelling share)) count ≡ None
@@ -203,7 +179,7 @@ spelling-passes width share (suc count) fits p =
     All-get_or IsWord share.levels count no_word (omega (arith, fits.levels)) fits.words in
     let good_bits : has_bits (block_at (spelling share) count) ≡ true = ap has_bits is_it ∙ has_bits-block (get_or share.levels count no_word) word in
     let good : has_elements (block_at (spelling share) count) ≡ true = ap has_elements is_it ∙ has_elements-block (get_or share.levels count no_word) word in
-    subst (λ n. first_failing (is_level (spelling share)) n ≡ None) (sym (add-one_is count))
+    subst (λ n. first_failing (is_level (spelling share)) n ≡ None) (add-one count)
     (level_passes (spelling share) count (spelling-passes width share count fits (omega arith)) good_bits good)
 
 -- the words of a spelling are those of the share
@@ -215,7 +191,7 @@ words_in-spelling width share (suc count) fits p =
     let word : IsWord (get_or share.levels count no_word) = All-get_or IsWord share.levels count no_word inside fits.words in
     let now : word_of (block_at (spelling share) count) ≡ get_or share.levels count no_word =
     ap word_of is_it ∙ word_of-block (get_or share.levels count no_word) word in
-    subst (λ n. words_in (spelling share) n ≡ take n share.levels) (sym (add-one_is count))
+    subst (λ n. words_in (spelling share) n ≡ take n share.levels) (add-one count)
     (words_in-more (spelling share) count
     ∙ ap₂ (λ (ws : List LevelWord) (w : LevelWord). ws ++ w ∷ []) (words_in-spelling width share count fits (omega arith)) now
     ∙ sym (take_more share.levels count no_word inside))

@@ -90,9 +90,8 @@ fn given(alloc: Global, bytes: &[u8], width: u8, number: u32) -> Result<Record, 
     match read_record(alloc, bytes, width) {
         Ok(share) => Ok(Record::Share(share)),
         Err(RecordError::Memory) => Err(FileError::Memory),
-        Err(RecordError::Bits { .. } | RecordError::Element { .. }) => Ok(Record::Malformed(
-            number,
-        )),
+        Err(RecordError::Bits { .. }) => Ok(Record::Malformed(number)),
+        Err(RecordError::Element { .. }) => Ok(Record::Malformed(number)),
     }
 }
 

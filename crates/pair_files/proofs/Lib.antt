@@ -1,0 +1,3 @@
+pub mod BothLaws
+pub mod MadeLaws
+pub mod PairSteps

@@ -1,0 +1,4 @@
+pub mod Kinds
+pub mod Misreads
+pub mod Exchanges
+pub mod Laws

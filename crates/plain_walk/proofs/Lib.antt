@@ -1,0 +1,3 @@
+pub mod LevelSteps
+pub mod WalkSteps
+pub mod WholeWalk

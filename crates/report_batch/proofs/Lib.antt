@@ -1,0 +1,9 @@
+pub mod Lists
+pub mod Same
+pub mod Orders
+pub mod Standings
+pub mod Entered
+pub mod Keys
+pub mod Joining
+pub mod Given
+pub mod Sizes
