@@ -6,3 +6,4 @@ pub mod TextSteps
 pub mod GenSteps
 pub mod FileSteps
 pub mod CommandSteps
+pub mod StatusLaws

@@ -7,3 +7,4 @@ pub mod Outcomes
 pub mod Statuses
 pub mod Stops
 pub mod Makings
+pub mod Laws

@@ -4,6 +4,7 @@
 
 mod eval;
 mod generation;
+pub mod laws;
 mod lines;
 mod refusal;
 mod stop;
