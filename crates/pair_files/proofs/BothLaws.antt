@@ -1,5 +1,5 @@
 -- Two names whose bytes grow together.
-use Rattle.std.proofs.Common.{◌≡◌, inl, inr, ℕ, ◌++◌, List, Option, None, Some, length, take, drop, sym, ap, ◌∙◌, append_assoc}
+use Rattle.std.proofs.Common.{◌≡◌, inl, inr, ℕ, ◌++◌, List, [], Option, None, Some, length, take, drop, sym, ap, ◌∙◌, append_assoc}
 use Rattle.std.specs.Prelude.{◌≢◌}
 use Rattle.std.specs.Option.{option_map}
 use Rattle.std.proofs.Math.Seq.{take-append_seam}
@@ -46,6 +46,12 @@ second_grown None mid now k xs l ys more text whole e f = f ∙ ap (option_map (
 second_grown (Some held) mid now k xs l ys more text whole e f =
     f ∙ ap (option_map (with_more l more)) e ∙ ap Some (more_of_written (with_bytes k xs held) l ys more)
     ∙ ap (λ t. Some (with_both k xs l t held)) whole
+
+-- both names begun, and a text written under the first
+pub first_text_written : (before mid begun now : Option Files) (k bytes text l : List ℕ) → k ≢ l → bytes ≡ text → mid ≡ option_map (with_bytes k []) before
+    → begun ≡ option_map (with_bytes l []) mid → now ≡ option_map (with_more k bytes) begun → now ≡ option_map (with_both k text l []) before
+first_text_written before mid begun now k bytes text l apart is e f h =
+    first_grown before begun now k [] bytes text l [] apart is (second_written before mid begun k [] l [] e f) h
 
 -- the first name alone holds a front of its text
 pub first_holds_front : (before now : Option Files) (k xs rest x l y : List ℕ) → x ≡ xs ++ rest → now ≡ option_map (with_bytes k xs) before

@@ -1,12 +1,10 @@
 -- The shares that are made of a list of strings, and the texts of the two files that hold them.
-use Rattle.std.specs.Prelude.{ℕ, ◌+◌, Bool, List, [], ◌∷◌, ◌++◌, length}
-use Rattle.std.specs.List.{flat_map}
-use Rattle.definitions.specs.declared.Side.{Side}
+use Rattle.std.specs.Prelude.{ℕ, ◌+◌, Bool, List, [], ◌∷◌, length}
 use Rattle.definitions.specs.declared.Side.TheVariants.{Zero, One}
 use Rattle.definitions.specs.ReportIds.{report_id}
 use Rattle.definitions.specs.Evaluation.{Share}
 use Rattle.definitions.specs.Generation.{client_coins, share0, share1}
-use Rattle.share_format.specs.Spelling.{header, spelling}
+use Rattle.share_format.specs.Laws.{file_of}
 
 -- the two sides' shares of the string of a line: their id is the tag and the line, their coins are those of the line
 abbrev pub zero_share : List ℕ → ℕ → ℕ → List Bool → Share
@@ -20,19 +18,16 @@ abbrev pub of_lines : (ℕ → List Bool → Share) → ℕ → List (List Bool)
 of_lines share_of line [] = []
 of_lines share_of line (string ∷ strings) = share_of line string ∷ of_lines share_of (line + 1) strings
 
+-- side 0's shares of strings, the first of which stands on this line; and side 1's
 abbrev pub made_zero : List ℕ → ℕ → ℕ → List (List Bool) → List Share
 made_zero master tag line strings = of_lines (zero_share master tag) line strings
 
 abbrev pub made_one : List ℕ → ℕ → ℕ → List (List Bool) → List Share
 made_one master tag line strings = of_lines (one_share master tag) line strings
 
--- a side's file: its header, and the record of each share in order
-abbrev pub file_text : Side → ℕ → List Share → List ℕ
-file_text side width shares = header side width ++ flat_map spelling shares
-
--- the two files of strings, whose lines are counted from 0
+-- the files of the two sides, of strings whose lines are counted from 0: a header, and the record of each share in order
 abbrev pub zero_text : ℕ → List ℕ → ℕ → List (List Bool) → List ℕ
-zero_text width master tag strings = file_text Zero width (made_zero master tag 0 strings)
+zero_text width master tag strings = file_of Zero width (made_zero master tag 0 strings)
 
 abbrev pub one_text : ℕ → List ℕ → ℕ → List (List Bool) → List ℕ
-one_text width master tag strings = file_text One width (made_one master tag 0 strings)
+one_text width master tag strings = file_of One width (made_one master tag 0 strings)

@@ -1,4 +1,5 @@
-//! The batch of two lists of shares.
+//! The batch of two lists of shares: what each side has under each id, joined in the order of the ids.
+//! The result is exactly the definition `batch` of `walk_definitions`.
 
 ghost use Rattle.std.specs.Prelude.{◌≡◌, IfOk};
 ghost use Rattle.walk_definitions.specs.Reports.{batch};

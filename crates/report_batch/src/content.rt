@@ -1,4 +1,5 @@
 //! What a side has under an id: one content, or two that differ.
+//! An id stands on a side where it has one content there.
 
 ghost use Rattle.std.specs.Prelude.{◌≡◌, if◌then◌else◌};
 ghost use Rattle.walk_definitions.specs.Reports.{same_share};

@@ -1,4 +1,5 @@
 //! What a side has under each id, found by one pass over its shares.
+//! It stands in a map in the order of the ids, so that the batch is read off two of them.
 
 ghost use Rattle.std.specs.Prelude.{◌≡◌, ℕ, List, IfOk};
 ghost use Rattle.std.specs.Ordering.{nat_cmp};

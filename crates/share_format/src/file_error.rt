@@ -2,7 +2,7 @@
 //! The first four speak of the file, the last two of the shelf and of memory.
 
 use shelf_io::Refused;
-use std::alloc::{AllocError, AllocFailed};
+use std::alloc::AllocError;
 
 /// Why a share file was not opened, or its next record not read.
 #[derive(Clone, Copy, Debug, PartialEq, Eq)]
@@ -41,17 +41,6 @@ impl From<Refused> for FileError {
             Refused::Failed => FileError::Shelf,
             Refused::Memory => FileError::Memory,
         }
-    }
-}
-
-impl<T: Drop> From<AllocFailed<T>> for FileError {
-    ghost use Rattle.std.specs.Prelude.{◌≡◌};
-    ghost use Rattle.share_format.specs.declared.file_error.FileError.TheVariants.{Memory};
-
-    ghost from_gives = { λ _ e. e ≡ Memory };
-
-    fn from(_refused: AllocFailed<T>) -> FileError {
-        FileError::Memory
     }
 }
 

@@ -1,7 +1,7 @@
 //! Why a record was not read.
 //! It names the first level at fault; within a level the byte of the bits comes before the numbers.
 
-use std::alloc::{AllocError, AllocFailed};
+use std::alloc::AllocFailed;
 
 /// Why a record was not read.
 #[derive(Clone, Copy, Debug, PartialEq, Eq)]
@@ -18,17 +18,6 @@ pub enum RecordError {
     },
     /// There was no memory for the levels.
     Memory,
-}
-
-impl From<AllocError> for RecordError {
-    ghost use Rattle.std.specs.Prelude.{◌≡◌};
-    ghost use Rattle.share_format.specs.declared.record_error.RecordError.TheVariants.{Memory};
-
-    ghost from_gives = { λ _ e. e ≡ Memory };
-
-    fn from(_refused: AllocError) -> RecordError {
-        RecordError::Memory
-    }
 }
 
 impl<T: Drop> From<AllocFailed<T>> for RecordError {
