@@ -43,6 +43,7 @@ gen_status settings (Some held) stop S K own fits rose =
     judged : (bytes : List ℕ) (b : Bool) → IsTrue (asks_shelf (if b then refusal StringsLong else gen_case settings (lines_case settings.width bytes)))
     judged bytes true = refl
     judged bytes false = case_asks settings (lines_case settings.width bytes)
+
     asks : (found : Option (List ℕ)) → IsTrue (asks_shelf (gen_file_outcome settings found))
     asks None = refl
     asks (Some bytes) = judged bytes (nat_lt (2 ^ 28) (length bytes))

@@ -45,6 +45,7 @@ too_great least most n p h = at (nat_lt n least)
   where
     past : nat_lt most n ≡ true
     past = lt-ltb most n (omega arith)
+
     at : (b : Bool) → (cond b None (cond (nat_lt most n) None (Some n))) ≡ None
     at true = refl
     at false = ap (λ b. cond b None (Some n)) past

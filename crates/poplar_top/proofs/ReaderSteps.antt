@@ -40,8 +40,6 @@ shelf_named side errors.Memory h = cc
 pub given_is : (r defined : Record) → Gives {X = Record} (Ok r) (Ok defined) → r ≡ defined
 given_is r defined h = cc
 
-
-
 -- what a file's refusal says of the status
 pub file_stop-eval : (side : Side) (e : FileError) → IsEvalStop (file_stop side e)
 file_stop-eval side errors.Missing = inl refl

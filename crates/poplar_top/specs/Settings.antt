@@ -63,7 +63,7 @@ abbrev pub gen_form : List (List ℕ) → Option ℕ → ℕ → Option GenSetti
 gen_form words tag place =
     if bytes_eq (word_at words 0) (codes "gen") && (bytes_eq (word_at words 1) (codes "--width") && bytes_eq (word_at words 3) (codes "--master"))
     then gen_made (number_in 1 32 (word_at words 2)) (seed_of (word_at words 4)) tag
-        (word_at words place) (word_at words (place + 1)) (word_at words (place + 2))
+    (word_at words place) (word_at words (place + 1)) (word_at words (place + 2))
     else None
 
 -- the tag of the option at a place, where it is that option

@@ -9,6 +9,8 @@ mod lines;
 mod refusal;
 mod stop;
 mod telling;
+#[cfg(test)]
+mod tests;
 mod top;
 mod values;
 mod words;

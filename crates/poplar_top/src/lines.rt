@@ -21,7 +21,12 @@ fn node_text(alloc: Global, id: &ReportId, node: &Node) -> Result<String, AllocE
 }
 
 /// The line of a share at a prefix that is not longer than its levels: the id, and both elements of the value.
-pub(crate) fn value_text(alloc: Global, share: &Share, side: Side, prefix: &Prefix) -> Result<String, AllocError>
+pub(crate) fn value_text(
+    alloc: Global,
+    share: &Share,
+    side: Side,
+    prefix: &Prefix,
+) -> Result<String, AllocError>
     requires bits { length prefix.now ≤ length share.now.levels }
     ensures line { IfOk result (λ line. string_bytes line ≡ value_line side prefix.now share.now) }
 {

@@ -65,7 +65,12 @@ pub(crate) struct GenAsked<'a> {
 fn are_three(strings: &str, zero: &str, one: &str) -> bool
     ensures value { result ≡ are_three strings.now zero.now one.now }
 {
-    is_name(strings) && is_name(zero) && is_name(one) && strings != zero && strings != one && zero != one
+    is_name(strings)
+        && is_name(zero)
+        && is_name(one)
+        && strings != zero
+        && strings != one
+        && zero != one
 }
 
 // The values of `gen`, each read from its word.
@@ -113,7 +118,10 @@ fn read_gen_form(words: &[String], tag: Option<u64>, place: usize) -> Option<Gen
     ensures width { IfSome result (λ a. (1 ≤ a.width) × (a.width ≤ 32)) }
     ensures differ { IfSome result (λ a. a.zero.now ≢ a.one.now) }
 {
-    if words[0].as_str() != "gen" || words[1].as_str() != "--width" || words[3].as_str() != "--master" {
+    if words[0].as_str() != "gen"
+        || words[1].as_str() != "--width"
+        || words[3].as_str() != "--master"
+    {
         return None;
     }
     read_gen_values(

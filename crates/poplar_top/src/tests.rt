@@ -1,0 +1,58 @@
+//! Whole commands over shelves and sinks in memory, by worked examples and values of an independent implementation.
+//! Each compares status, out and err byte for byte.
+
+mod eval;
+mod generating;
+
+use crate::{eval_file, gen_files};
+use shelf_io::{Call, FirmSink, MemoryShelf, Shelf};
+use std::alloc::{AllocError, Global};
+
+// The header of a share file of width 1.
+const HEADER: [u8; 8] = [0x50, 0x50, 0x4c, 0x52, 1, 0, 1, 0];
+
+// Words with memory of their own.
+fn words_of(alloc: Global, list: &[&str]) -> Result<Vec<String>, AllocError> {
+    let mut words = Vec::new(alloc);
+    for word in list {
+        words.push(String::from_str(alloc, word)?)?;
+    }
+    Ok(words)
+}
+
+// A shelf of which the call of a kind with this number, counted from 1, fails; 0 for none.
+fn shelf_of(alloc: Global, call: Call, number: u64) -> Result<MemoryShelf, AllocError> {
+    let mut fail = Vec::new(alloc);
+    fail.push((call, number))?;
+    Ok(MemoryShelf::new(alloc, fail))
+}
+
+// Whether `eval` of these words ends so.
+fn evaluates<H: Shelf>(
+    alloc: Global,
+    shelf: &mut H,
+    list: &[&str],
+    status: u8,
+    text: &str,
+    lines: &str,
+) -> Result<bool, AllocError> {
+    let mut out = FirmSink::new(alloc);
+    let mut err = FirmSink::new(alloc);
+    let words = words_of(alloc, list)?;
+    let ended = eval_file(alloc, &words, shelf, &mut out, &mut err);
+    Ok(ended == status && out.bytes() == text.as_bytes() && err.bytes() == lines.as_bytes())
+}
+
+// Whether `gen` of these words ends so.
+fn generates<H: Shelf>(
+    alloc: Global,
+    shelf: &mut H,
+    list: &[&str],
+    status: u8,
+    lines: &str,
+) -> Result<bool, AllocError> {
+    let mut err = FirmSink::new(alloc);
+    let words = words_of(alloc, list)?;
+    let ended = gen_files(alloc, &words, shelf, &mut err);
+    Ok(ended == status && err.bytes() == lines.as_bytes())
+}
