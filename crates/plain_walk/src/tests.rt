@@ -1,5 +1,5 @@
-//! The walk over generated reports of the strings `ab`, `ab` and `ac` at four thresholds.
-//! Each passes every level, and the totals are the plain counts.
+//! The walk over the known shares of the strings `ab` and `ac`, the first report twice, at four thresholds.
+//! The shares of line 0 and line 1 are those that an independent implementation makes; every report passes each level.
 
 ghost use Rattle.std.specs.Prelude.{◌≡◌, ◌≤◌, IfOk, length};
 
@@ -40,8 +40,8 @@ fn answer_at(alloc: Global, threshold: u64) -> Result<Answer, PruneError>
     let (ab, ac) = (Prefix::of_bytes(b"ab"), Prefix::of_bytes(b"ac"));
     let batch = [
         report_of(alloc, 0, &ab)?,
-        report_of(alloc, 1, &ab)?,
-        report_of(alloc, 2, &ac)?,
+        report_of(alloc, 0, &ab)?,
+        report_of(alloc, 1, &ac)?,
     ];
     let settings = Settings {
         bits: 16,

@@ -3,6 +3,7 @@
 
 mod eval;
 mod generating;
+mod pairs;
 
 use crate::{eval_file, gen_files};
 use shelf_io::{Call, FirmSink, MemoryShelf, Shelf};
