@@ -4,10 +4,9 @@
 
 use poplar_top::poplar;
 use shelf_io::{FileShelf, FirmLink, OpenGate, StdSink};
-use std::env;
-use std::io;
 use std::io::ErrorKind;
 use std::process::ExitCode;
+use std::{env, io};
 
 // The words behind the program's name.
 fn words_of(rt: &HostRuntime) -> io::Result<Vec<String>> {
