@@ -1,0 +1,9 @@
+pub mod Lists
+pub mod Readings
+pub mod Exchanges
+pub mod Followed
+pub mod Views
+pub mod SideNumbers
+pub mod Openings
+pub mod LevelParts
+pub mod WalkSteps

@@ -1,0 +1,11 @@
+pub mod AddedKinds
+pub mod Places
+pub mod Rules
+pub mod Ranges
+pub mod Talking
+pub mod Parts
+pub mod Failures
+pub mod Prunings
+pub mod Levels
+pub mod Walks
+pub mod Steps

@@ -1,0 +1,102 @@
+//! One step of the walk: a level, and what its pruning leaves.
+//! A step hands on the next level's frontier and live reports, and keeps nothing of its own level.
+
+ghost use Rattle.std.specs.Prelude.{◌≡◌, ◌<◌, ◌≤◌, ◌^◌, length, IfOk, IfErr, IfSome};
+ghost use Rattle.std.specs.List.{All};
+ghost use Rattle.pair_run.specs.Failures.{end_of, HasPairCause};
+ghost use Rattle.pair_run.specs.Levels.{HaveLevels};
+ghost use Rattle.pair_run.specs.Places.{picked};
+ghost use Rattle.pair_run.specs.Rules.{rules_of};
+ghost use Rattle.frontier_walk.specs.Outcomes.{pruned};
+ghost use Rattle.pair_run.specs.Steps.{StepHeard, StepTrue, StepKept, IsOutcome, IsStop};
+ghost use Rattle.pair_run.specs.Talking.{Passed, IsReady};
+ghost use Rattle.pair_run.specs.Walks.{IsStage, EndsSo, TrulyEnds};
+
+use crate::answers::{Answer, PairError};
+use crate::level::{WalkedLevel, walk_level};
+use crate::settings::WalkSettings;
+use definitions::Sequence;
+use frontier_walk::{Frontier, Next};
+use report_batch::Batch;
+use shelf_io::Link;
+use std::alloc::Global;
+
+/// What follows a level.
+#[derive(Drop)]
+pub enum Step {
+    /// The walk's answer.
+    Done(Answer),
+    /// The next level's frontier, and the places of the reports that are live before it.
+    Further(Frontier, Vec<u32>),
+}
+
+/// Walks the frontier's level and prunes it.
+pub fn walk_step<K: Link>(
+    alloc: Global,
+    link: &mut K,
+    settings: &WalkSettings,
+    batch: &Batch,
+    frontier: Frontier,
+    live: Vec<u32>,
+) -> Result<Step, PairError>
+    requires bits { frontier.bits ≡ settings.now.bits }
+    requires cap { frontier.cap ≡ settings.now.cap }
+    requires threshold { 1 ≤ settings.now.threshold }
+    requires levels { HaveLevels settings.now.bits batch.now }
+    requires few { length batch.now < 2 ^ 27 }
+    requires places { All (λ k. k < length batch.now) live.items }
+    requires small { length live.items < 2 ^ 27 }
+    ensures kept { IfOk result (StepKept batch.now frontier) }
+    ensures heard { IfOk result (StepHeard (rules_of settings.now) batch.now frontier live.items (K.talk link.old) (K.talk link.new)) }
+    ensures stops { IfErr result (λ e. IfSome (end_of e) (λ end. Passed (K.talk link.old) (K.talk link.new)
+        (EndsSo (rules_of settings.now) frontier (picked batch.now live.items) end))) }
+    ensures truly { IfOk result (λ step. IsReady (K.is_true link.old) (K.talk link.old)
+        → IsStage (rules_of settings.now) batch.now frontier (picked batch.now live.items)
+        → StepTrue (rules_of settings.now) batch.now frontier (K.is_true link.new) (K.talk link.old) (K.talk link.new) step) }
+    ensures partly { IfErr result (λ e. IsReady (K.is_true link.old) (K.talk link.old)
+        → IsStage (rules_of settings.now) batch.now frontier (picked batch.now live.items)
+        → TrulyEnds (rules_of settings.now) batch.now frontier (K.is_true link.new) (K.talk link.old) (K.talk link.new) (end_of e)) }
+    ensures cause { HasPairCause (K.faults link.old) (K.faults link.new) result }
+{
+    let walked = walk_level(
+        alloc,
+        link,
+        settings,
+        frontier.level(),
+        frontier.candidates(),
+        batch,
+        &live,
+    )?;
+    pruned_step(alloc, settings, batch, frontier, walked)
+}
+
+// What a walked level's pruning leaves.
+fn pruned_step(
+    alloc: Global,
+    settings: &WalkSettings,
+    batch: &Batch,
+    frontier: Frontier,
+    walked: WalkedLevel,
+) -> Result<Step, PairError>
+    requires long { All (λ q. length q ≡ frontier.level) frontier.candidates }
+    requires totals { length walked.totals.items ≡ length frontier.candidates }
+    requires threshold { 1 ≤ settings.now.threshold }
+    requires few { length batch.now < 2 ^ 27 }
+    requires places { All (λ k. k < length batch.now) walked.live.items }
+    requires small { length walked.live.items < 2 ^ 27 }
+    ensures kept { IfOk result (StepKept batch.now frontier) }
+    ensures outcome { IfOk result (IsOutcome frontier batch.now walked.live.items
+        (pruned frontier walked.totals.items settings.now.threshold)) }
+    ensures cause { IfErr result (IsStop (pruned frontier walked.totals.items settings.now.threshold)) }
+{
+    let level = frontier.level();
+    match frontier.prune(alloc, &walked.totals, settings.threshold)? {
+        Next::Level(next) => Ok(Step::Further(next, walked.live)),
+        Next::Done(heavy) => Ok(Step::Done(Answer {
+            sealed: batch.len() as u32,
+            passed: walked.live.len() as u32,
+            levels: level,
+            heavy: Sequence::from_vec(heavy),
+        })),
+    }
+}
