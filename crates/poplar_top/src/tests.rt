@@ -12,6 +12,9 @@ use std::alloc::{AllocError, Global};
 // The header of a share file of width 1.
 const HEADER: [u8; 8] = [0x50, 0x50, 0x4c, 0x52, 1, 0, 1, 0];
 
+// The digits of the master seed whose bytes are 0, 1, .. 31.
+const MASTER: &str = "000102030405060708090a0b0c0d0e0f101112131415161718191a1b1c1d1e1f";
+
 // Words with memory of their own.
 fn words_of(alloc: Global, list: &[&str]) -> Result<Vec<String>, AllocError> {
     let mut words = Vec::new(alloc);

@@ -1,12 +1,10 @@
 //! `gen` over strings files that are right or refused, and `eval` of the files that it makes.
 //! The values of the made files are those of an independent implementation.
 
-use super::{evaluates, generates, shelf_of, words_of};
+use super::{MASTER, evaluates, generates, shelf_of, words_of};
 use crate::poplar;
 use shelf_io::{Call, FirmLink, FirmSink, MemoryShelf, OpenGate};
 use std::alloc::{AllocError, Global};
-
-const MASTER: &str = "000102030405060708090a0b0c0d0e0f101112131415161718191a1b1c1d1e1f";
 
 const USAGE: &str = "usage: poplar eval, gen, run, find, make, upgrade\n";
 
