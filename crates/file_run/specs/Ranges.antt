@@ -1,0 +1,10 @@
+-- The ranges of what a run is told.
+use Rattle.std.specs.Prelude.{◌<◌, ◌≤◌}
+use Rattle.definitions.specs.Field.{modulus}
+use Rattle.file_run.specs.declared.rules.RunRules.{RunRules}
+
+pub record IsInRange (rules : RunRules) : Type 0 where
+  pub some_threshold : 1 ≤ rules.threshold
+  pub small_threshold : rules.threshold < modulus
+  pub some_cap : 2 ≤ rules.cap
+  pub small_cap : rules.cap ≤ 65536
