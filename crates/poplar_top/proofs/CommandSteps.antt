@@ -1,16 +1,18 @@
 -- What each command leaves alone, and how a command's clauses become those of the top call.
-use Rattle.std.proofs.Common.{◌≡◌, ◌⊎◌, inl, inr, ℕ, ◌*◌, ◌^◌, Bool, true, false, nat_lt, List, Option, None, Some, length, refl, sym, subst}
-use Rattle.std.specs.Prelude.{if◌then◌else◌}
+use Rattle.std.proofs.Common.{◌≡◌, ◌⊎◌, inl, inr, ℕ, ◌*◌, ◌^◌, Bool, true, false, nat_lt, List, Option, None, Some, length, refl, sym, ap, ◌∙◌}
+use Rattle.std.specs.Prelude.{if◌then◌else◌, codes}
+use Rattle.std.specs.Str.{bytes_eq}
 use Rattle.std.specs.FinMap.{get}
 use Rattle.shelf_io.specs.Files.{Files}
 use Rattle.share_format.specs.ShareFile.{FileCase, too_long, header_wrong, cut, whole, file_case, records}
 use Rattle.text_strings.specs.Lines.{LinesCase, too_many, line_long, zero_byte, strings, lines_case}
 use Rattle.poplar_top.specs.declared.refusal.Refusal.TheVariants.{LongPrefix, StringsLong}
-use Rattle.poplar_top.specs.Settings.{EvalSettings, GenSettings, eval_words, gen_words}
+use Rattle.command_words.specs.Settings.{EvalSettings, GenSettings, eval_words, gen_words, word_at}
+use Rattle.poplar_top.specs.Commands.{command_of, generates, runs, evaluates}
 use Rattle.poplar_top.specs.EvalTexts.{value_lines, refused_lines}
 use Rattle.poplar_top.specs.Outcomes.{Outcome, eval_case, eval_file_outcome, eval_settled, eval_outcome, gen_case, gen_file_outcome, gen_settled, gen_outcome}
-use Rattle.poplar_top.specs.Outcomes.Outcome.{usage, refusal, texts, writes, untold_eval, untold_gen}
-use Rattle.poplar_top.specs.Statuses.{MayStand, OutGets, ErrGets, ShelfGets}
+use Rattle.poplar_top.specs.Outcomes.Outcome.{refusal, texts}
+use Rattle.poplar_top.specs.Statuses.{MayStand, OutGets, ShelfGets}
 
 -- ---- `gen` leaves out alone
 
@@ -64,10 +66,20 @@ eval_shelf words files now status e = settled (eval_words words) files now e
 
 -- ---- one more sink
 
-pub more_sinks : (o : Outcome) (S K M : Type 0) (status : ℕ) → MayStand o S K status → MayStand o S (M ⊎ K) status
-more_sinks o S K M status (inl own) = inl own
-more_sinks o S K M status (inr (inl shelf)) = inr (inl shelf)
-more_sinks o S K M status (inr (inr (inl sink))) = inr (inr (inl (sink.0, sink.1, inr sink.2)))
-more_sinks o S K M status (inr (inr (inr memory))) = inr (inr (inr memory))
+pub more_sinks : (o : Outcome) (S L K M : Type 0) (status : ℕ) → MayStand o S L K status → MayStand o S L (M ⊎ K) status
+more_sinks o S L K M status (inl own) = inl own
+more_sinks o S L K M status (inr (inl shelf)) = inr (inl shelf)
+more_sinks o S L K M status (inr (inr (inl link))) = inr (inr (inl link))
+more_sinks o S L K M status (inr (inr (inr (inl sink)))) = inr (inr (inr (inl (sink.0, sink.1, inr sink.2))))
+more_sinks o S L K M status (inr (inr (inr (inr memory)))) = inr (inr (inr (inr memory)))
+
+-- ---- the first word
+
+-- the first word names `run`, where it was compared with `gen` and with `run`
+pub names_run : (words : List (List ℕ)) (is_gen is_run : Bool) → is_gen ≡ bytes_eq (word_at words 0) (codes "gen") → is_run ≡ bytes_eq (word_at words 0) (codes "run")
+    → is_gen ≡ false → is_run ≡ true → command_of words ≡ runs
+names_run words is_gen is_run g r other same =
+    ap (λ b. if b then generates else (if bytes_eq (word_at words 0) (codes "run") then runs else evaluates)) (sym g ∙ other)
+    ∙ ap (λ b. if b then runs else evaluates) (sym r ∙ same)
 
 pub ruleset command_steps = (gen_out, eval_shelf, more_sinks)

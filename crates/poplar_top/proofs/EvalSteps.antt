@@ -1,5 +1,5 @@
 -- The texts of `eval` over one more record, and over all of them.
-use Rattle.std.proofs.Common.{◌≡◌, ℕ, zero, suc, ◌+◌, ◌*◌, ◌<◌, ◌≤◌, Bool, List, [], ◌∷◌, ◌++◌, Option, None, Some, length, take, refl, sym, ◌∙◌, ap, arith, append-nil, append_assoc, length-append, add-one}
+use Rattle.std.proofs.Common.{◌≡◌, ℕ, zero, suc, ◌+◌, ◌*◌, ◌<◌, ◌≤◌, Bool, List, [], ◌∷◌, ◌++◌, Some, length, take, refl, sym, ◌∙◌, ap, arith, append-nil, append_assoc, length-append, add-one}
 use Rattle.std.specs.Prelude.{slice_get}
 use Rattle.std.specs.List.{flat_map}
 use Rattle.std.proofs.lemmas.List.{take_all}
@@ -9,7 +9,8 @@ use Rattle.share_format.specs.declared.records.Record.{Record}
 use Rattle.share_format.specs.declared.records.Record.TheVariants as given
 use Rattle.share_format.specs.Answers.{answer, record_answer, IsGiven}
 use Rattle.share_format.specs.ShareFile.{RecordCase, well_formed, malformed, shares_of, malformed_from, records, first_records, record_count}
-use Rattle.poplar_top.specs.EvalTexts.{value_line, value_lines, refused_line, refused_lines, given_value, given_refusal, IsShort}
+use Rattle.answer_text.specs.RefusedText.{refused_line}
+use Rattle.poplar_top.specs.EvalTexts.{value_line, value_lines, refused_lines, given_value, given_refusal, IsShort}
 
 flat_map-append : {X Y : Type 0} (f : X → List Y) (xs ys : List X) → flat_map f (xs ++ ys) ≡ flat_map f xs ++ flat_map f ys
 flat_map-append f [] ys = refl

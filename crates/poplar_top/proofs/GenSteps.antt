@@ -1,16 +1,16 @@
 -- What `gen` cites.
-use Rattle.std.proofs.Common.{◌≡◌, ◌⊎◌, inl, inr, ℕ, ◌^◌, ◌<◌, ◌≤◌, Bool, true, false, cond, nat_lt, List, Option, None, Some, length, take, refl, sym, subst, ap, ◌∙◌, arith}
+use Rattle.std.proofs.Common.{◌≡◌, ℕ, ◌^◌, ◌<◌, ◌≤◌, Bool, false, cond, nat_lt, List, Option, None, Some, length, take, refl, sym, subst, ap, ◌∙◌, arith}
 use Rattle.std.proofs.lemmas.Bool.{lt-ltb, le-ltb}
 use Rattle.std.proofs.lemmas.List.{take_all}
-use Rattle.text_strings.specs.Lines.{LinesCase, too_many, line_long, zero_byte, strings, lines_case, Tells}
+use Rattle.text_strings.specs.Lines.{LinesCase, strings, lines_case, Tells}
 use Rattle.text_strings.specs.declared.lines_error.LinesError.{LinesError}
 use Rattle.text_strings.specs.declared.lines_error.LinesError.TheVariants as lines
 use Rattle.pair_files.specs.Made.{zero_text, one_text}
-use Rattle.poplar_top.specs.declared.refusal.Refusal.TheVariants.{Missing, TooLong, Header, Cut, LongPrefix, NoStrings, StringsLong, TooMany, LineLong, ZeroByte}
+use Rattle.poplar_top.specs.declared.refusal.Refusal.TheVariants.{Missing, TooLong, Header, Cut, LongPrefix, NoStrings, StringsLong, TooMany, LineLong, ZeroByte, Widths, Walk}
 use Rattle.poplar_top.specs.declared.stop.Stop.{Stop}
 use Rattle.poplar_top.specs.declared.stop.Stop.TheVariants as stops
-use Rattle.poplar_top.specs.Settings.{GenSettings}
-use Rattle.poplar_top.specs.Outcomes.{Outcome, gen_case, gen_file_outcome}
+use Rattle.command_words.specs.Settings.{GenSettings}
+use Rattle.poplar_top.specs.Outcomes.{gen_case, gen_file_outcome}
 use Rattle.poplar_top.specs.Outcomes.Outcome.{refusal, writes}
 use Rattle.poplar_top.specs.Stops.{StopFits, FitsFile, FitsLines, IsGenStop, lines_stop}
 
@@ -46,7 +46,10 @@ fits_case settings found (stops.Refusal (Cut side at)) h = absurd h
 fits_case settings found (stops.Refusal (LongPrefix bits width)) h = absurd h
 fits_case settings found (stops.Refusal NoStrings) h = absurd h
 fits_case settings found (stops.Refusal StringsLong) h = absurd h
+fits_case settings found (stops.Refusal (Widths zero one)) h = absurd h
+fits_case settings found (stops.Refusal (Walk why)) h = absurd h
 fits_case settings found stops.Shelf h = tt
+fits_case settings found stops.Link h = tt
 fits_case settings found stops.Memory h = tt
 
 pub gen_refused : (settings : GenSettings) (bytes : List ℕ) (stop : Stop) → length bytes ≤ 2 ^ 28 → FitsLines (lines_case settings.width bytes) stop
@@ -72,13 +75,17 @@ lines_own found (stops.Refusal (Cut side at)) h = absurd h
 lines_own found (stops.Refusal (LongPrefix bits width)) h = absurd h
 lines_own found (stops.Refusal NoStrings) h = absurd h
 lines_own found (stops.Refusal StringsLong) h = absurd h
+lines_own found (stops.Refusal (Widths zero one)) h = absurd h
+lines_own found (stops.Refusal (Walk why)) h = absurd h
 lines_own found stops.Shelf h = absurd h
+lines_own found stops.Link h = absurd h
 lines_own found stops.Memory h = tt
 
 -- and that they are no fault of the shelf
 pub lines_no_shelf : (found : LinesCase) (stop : Stop) → FitsLines found stop → stop ≡ stops.Shelf → ⊥
 lines_no_shelf found (stops.Refusal r) h e = absurd (cc)
 lines_no_shelf found stops.Shelf h e = absurd h
+lines_no_shelf found stops.Link h e = absurd h
 lines_no_shelf found stops.Memory h e = absurd (cc)
 
 -- a file that was not read whole
@@ -94,7 +101,10 @@ file_refused settings found (stops.Refusal (TooLong side)) h = absurd h
 file_refused settings found (stops.Refusal (Header side at)) h = absurd h
 file_refused settings found (stops.Refusal (Cut side at)) h = absurd h
 file_refused settings found (stops.Refusal (LongPrefix bits width)) h = absurd h
+file_refused settings found (stops.Refusal (Widths zero one)) h = absurd h
+file_refused settings found (stops.Refusal (Walk why)) h = absurd h
 file_refused settings found stops.Shelf h = tt
+file_refused settings found stops.Link h = absurd h
 file_refused settings found stops.Memory h = tt
 
 -- a file of which as many bytes were read as it has

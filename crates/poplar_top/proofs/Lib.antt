@@ -1,9 +1,10 @@
 pub mod TopSteps
 pub mod EvalSteps
 pub mod ReaderSteps
-pub mod NumberSteps
 pub mod TextSteps
 pub mod GenSteps
 pub mod FileSteps
 pub mod CommandSteps
+pub mod RunSteps
+pub mod RunLaws
 pub mod StatusLaws

@@ -1,5 +1,5 @@
 -- What a reader's answers say of the reader and of the reasons to stop.
-use Rattle.std.proofs.Common.{◌≡◌, Result, Ok, Err, refl, inl}
+use Rattle.std.proofs.Common.{◌≡◌, Ok, Err, refl, inl}
 use Rattle.definitions.specs.declared.Side.{Side}
 use Rattle.share_format.specs.declared.file_error.FileError.{FileError}
 use Rattle.share_format.specs.declared.file_error.FileError.TheVariants as errors
@@ -8,7 +8,6 @@ use Rattle.share_format.specs.declared.records.Record.TheVariants as given
 use Rattle.share_format.specs.Readings.{Reading}
 use Rattle.share_format.specs.Answers.{Stands}
 use Rattle.share_format.specs.Causes.{Gives}
-use Rattle.poplar_top.specs.declared.stop.Stop.{Stop}
 use Rattle.poplar_top.specs.declared.stop.Stop.TheVariants as stops
 use Rattle.poplar_top.specs.Readers.{is_more, Went}
 use Rattle.poplar_top.specs.Stops.{IsNoRefusal, IsEvalStop, file_stop}

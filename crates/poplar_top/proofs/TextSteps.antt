@@ -1,11 +1,11 @@
 -- Texts that grow record by record, where the shelf tells the file.
-use Rattle.std.proofs.Common.{◌≡◌, ℕ, ◌+◌, ◌<◌, ◌≤◌, List, [], ◌++◌, Option, None, Some, length, take, refl, sym, ◌∙◌, ap, subst, arith, append-nil}
-use Rattle.std.specs.Prelude.{IfSome, slice_get}
+use Rattle.std.proofs.Common.{◌≡◌, ℕ, ◌+◌, ◌<◌, ◌≤◌, List, [], ◌++◌, Option, None, Some, length, take, sym, ◌∙◌, ap, subst, arith, append-nil}
+use Rattle.std.specs.Prelude.{IfSome}
 use Rattle.std.specs.FinMap.{get}
 use Rattle.std.proofs.lemmas.Option.{slice_get_past}
 use Rattle.shelf_io.specs.Files.{Files, IfThere}
 use Rattle.share_format.specs.ShareFile.{RecordCase, records}
-use Rattle.share_format.specs.Readings.{Reading, IsOf, Fits, advanced}
+use Rattle.share_format.specs.Readings.{Reading, Fits, advanced}
 use Rattle.share_format.specs.declared.records.Record.{Record}
 use Rattle.share_format.specs.declared.records.Record.TheVariants as given
 use Rattle.share_format.specs.Answers.{answer, record_answer}

@@ -1,38 +1,81 @@
 -- What the top call cites.
-use Rattle.std.proofs.Common.{◌≡◌, ◌⊎◌, inl, inr, ℕ, ◌*◌, ◌≤◌, ◌++◌, Bool, true, false, nat_lt, List, [], ◌∷◌, Option, None, Some, length, take, refl, sym, subst, ap, ◌∙◌, arith}
+use Rattle.std.proofs.Common.{◌≡◌, ◌⊎◌, inl, inr, ℕ, ◌*◌, ◌++◌, Bool, true, false, nat_lt, List, [], ◌∷◌, Option, None, Some, length, take, refl, sym, subst, ap, ◌∙◌, arith, append-nil}
 use Rattle.std.specs.Prelude.{IfSome, IsTrue, if◌then◌else◌}
 use Rattle.std.specs.FinMap.{get}
 use Rattle.shelf_io.specs.Files.{Files}
 use Rattle.shelf_io.specs.Texts.{Grew, GrewWithin}
-use Rattle.shelf_io.proofs.TextLaws.{grew_twice}
+use Rattle.std.proofs.lemmas.List.{take_all}
+use Rattle.shelf_io.proofs.TextLaws.{grew_twice, within_of_grew}
 use Rattle.poplar_top.specs.declared.refusal.Refusal.{Refusal}
-use Rattle.poplar_top.specs.declared.refusal.Refusal.TheVariants.{Missing, TooLong, Header, Cut, LongPrefix, NoStrings, StringsLong, TooMany, LineLong, ZeroByte}
+use Rattle.poplar_top.specs.declared.refusal.Refusal.TheVariants.{Missing, TooLong, Header, Cut, LongPrefix, NoStrings, StringsLong, TooMany, LineLong, ZeroByte, Widths, Walk}
+use Rattle.poplar_top.specs.declared.walk_refusal.WalkRefusal.TheVariants.{Cap, PeerMessage, Views}
 use Rattle.poplar_top.specs.declared.stop.Stop.{Stop}
 use Rattle.poplar_top.specs.declared.stop.Stop.TheVariants as stops
-use Rattle.poplar_top.specs.Settings.{EvalSettings, GenSettings}
-use Rattle.poplar_top.specs.Outcomes.{Outcome, eval_case, eval_file_outcome, eval_told, gen_case, gen_file_outcome, gen_told}
-use Rattle.poplar_top.specs.Outcomes.Outcome.{usage, refusal, texts, writes, untold_eval, untold_gen}
-use Rattle.poplar_top.specs.Statuses.{ErrGets, MayStand, IsOwn, asks_shelf, fault_line}
+use Rattle.command_words.specs.Settings.{EvalSettings, GenSettings}
+use Rattle.poplar_top.specs.Outcomes.{Outcome, eval_case, eval_file_outcome, eval_told, gen_file_outcome, gen_told}
+use Rattle.poplar_top.specs.Outcomes.Outcome.{usage, refusal, texts, writes, untold_eval, untold_gen, untold_run, unheard}
+use Rattle.poplar_top.specs.Statuses.{Prints, ErrGets, MayStand, asks_shelf, fault_line}
 use Rattle.share_format.specs.ShareFile.{FileCase, too_long, header_wrong, cut, whole, file_case, records}
 use Rattle.poplar_top.specs.EvalTexts.{value_lines, refused_lines}
 use Rattle.poplar_top.specs.Refusals.{status_of}
-use Rattle.poplar_top.specs.Stops.{StopFits, IsEvalStop, IsGenStop, stop_status, stop_line}
+use Rattle.poplar_top.specs.Stops.{StopFits, IsEvalStop, stop_status, stop_line}
 
 none_taken : (xs ys : List ℕ) → take 0 xs ++ ys ≡ ys
 none_taken [] ys = refl
 none_taken (x ∷ xs) ys = refl
 
--- a fault before err's text
-pub fault_first : (out err line : List ℕ) (status : ℕ) (before now : Option (List ℕ)) → (status ≡ 0 → ⊥) → GrewWithin before now (fault_line status)
-    → ErrGets (texts out err) status before now
-fault_first out err line status before now other h =
-    ((λ e. absurd (other e)), (0, h.0, subst (Grew before now) (sym (none_taken err (take h.0 (fault_line status)))) h.2))
+-- a status that is 8 or 10 is no other
+not_sinks : {status : ℕ} → (status ≡ 8) ⊎ (status ≡ 10) → (status ≡ 8 → ⊥) → (status ≡ 10 → ⊥) → ⊥
+not_sinks (inl e) no_memory no_sink = no_memory e
+not_sinks (inr e) no_memory no_sink = no_sink e
 
--- a fault within err's text
-pub fault_within : (out err : List ℕ) (status : ℕ) (before mid now : Option (List ℕ)) → (status ≡ 0 → ⊥) → GrewWithin before mid err
+-- out's whole text was written, and err's was not
+pub out_first : (before now : Option (List ℕ)) (text : List ℕ) (status : ℕ) → (status ≡ 8) ⊎ (status ≡ 10) → Grew before now text
+    → Prints before now text status
+out_first before now text status is h = record {
+  whole = λ _. h;
+  front = within_of_grew before now text h;
+  nothing = λ _ no_memory no_sink. absurd (not_sinks is no_memory no_sink);
+}
+
+take_none : (xs : List ℕ) → take 0 xs ≡ []
+take_none [] = refl
+take_none (x ∷ xs) = refl
+
+-- both texts were written
+pub err_whole : (out err : List ℕ) (before now : Option (List ℕ)) → Grew before now err → ErrGets (texts out err) 0 before now
+err_whole out err before now h = record {
+  whole = λ _. h;
+  front = (
+    length err,
+    0,
+    subst (Grew before now)
+        (sym (ap (λ xs. xs ++ take 0 (fault_line 0)) (take_all (length err) err (omega arith)) ∙ ap (λ ys. err ++ ys) (take_none (fault_line 0)) ∙ append-nil err)) h,
+  );
+  alone = λ other _ _. absurd (other refl);
+}
+
+-- a fault before err's text
+pub fault_first : (out err : List ℕ) (status : ℕ) (before now : Option (List ℕ)) → (status ≡ 0 → ⊥) → GrewWithin before now (fault_line status)
+    → ErrGets (texts out err) status before now
+fault_first out err status before now other h = record {
+  whole = λ e. absurd (other e);
+  front = (0, h.0, subst (Grew before now) (sym (none_taken err (take h.0 (fault_line status)))) h.2);
+  alone = λ _ _ _. h;
+}
+
+-- a fault of a sink within err's text
+pub fault_within : (out err : List ℕ) (status : ℕ) (before mid now : Option (List ℕ)) → (status ≡ 8) ⊎ (status ≡ 10) → GrewWithin before mid err
     → GrewWithin mid now (fault_line status) → ErrGets (texts out err) status before now
-fault_within out err status before mid now other first second =
-    ((λ e. absurd (other e)), (first.0, second.0, grew_twice before mid now (take first.0 err) (take second.0 (fault_line status)) first.2 second.2))
+fault_within out err status before mid now is first second = record {
+  whole = λ e. absurd (zero is e);
+  front = (first.0, second.0, grew_twice before mid now (take first.0 err) (take second.0 (fault_line status)) first.2 second.2);
+  alone = λ _ no_memory no_sink. absurd (not_sinks is no_memory no_sink);
+}
+  where
+    zero : (status ≡ 8) ⊎ (status ≡ 10) → status ≡ 0 → ⊥
+    zero (inl a) e = omega (arith, a, e)
+    zero (inr a) e = omega (arith, a, e)
 
 refusal_line : (r : Refusal) (before now : Option (List ℕ)) → GrewWithin before now (stop_line (stops.Refusal r)) → ErrGets (refusal r) (stop_status (stops.Refusal r)) before now
 refusal_line (Missing side) before now h = h
@@ -45,28 +88,47 @@ refusal_line StringsLong before now h = h
 refusal_line (TooMany lines) before now h = h
 refusal_line (LineLong line) before now h = h
 refusal_line (ZeroByte line) before now h = h
+refusal_line (Widths zero one) before now h = h
+refusal_line (Walk (Cap level wanted)) before now h = h
+refusal_line (Walk (PeerMessage level kind at)) before now h = h
+refusal_line (Walk (Views level kind place left right)) before now h = h
 
 -- a fault's line, whatever the outcome is
 shelf_line : (o : Outcome) (before now : Option (List ℕ)) → GrewWithin before now (fault_line 6) → ErrGets o 6 before now
 shelf_line usage before now h = h
 shelf_line (refusal r) before now h = h
-shelf_line (texts out err) before now h = fault_first out err [] 6 before now (λ e. omega (arith, e)) h
+shelf_line (texts out err) before now h = fault_first out err 6 before now (λ e. omega (arith, e)) h
 shelf_line (writes zero_name zero_text one_name one_text) before now h = ((λ e. absurd (omega (arith, e))), h)
 shelf_line untold_eval before now h = tt
 shelf_line untold_gen before now h = tt
+shelf_line untold_run before now h = tt
+shelf_line unheard before now h = tt
+
+link_line : (o : Outcome) (before now : Option (List ℕ)) → GrewWithin before now (fault_line 7) → ErrGets o 7 before now
+link_line usage before now h = h
+link_line (refusal r) before now h = h
+link_line (texts out err) before now h = fault_first out err 7 before now (λ e. omega (arith, e)) h
+link_line (writes zero_name zero_text one_name one_text) before now h = ((λ e. absurd (omega (arith, e))), h)
+link_line untold_eval before now h = tt
+link_line untold_gen before now h = tt
+link_line untold_run before now h = tt
+link_line unheard before now h = tt
 
 memory_line : (o : Outcome) (before now : Option (List ℕ)) → GrewWithin before now (fault_line 8) → ErrGets o 8 before now
 memory_line usage before now h = h
 memory_line (refusal r) before now h = h
-memory_line (texts out err) before now h = fault_first out err [] 8 before now (λ e. omega (arith, e)) h
+memory_line (texts out err) before now h = fault_first out err 8 before now (λ e. omega (arith, e)) h
 memory_line (writes zero_name zero_text one_name one_text) before now h = ((λ e. absurd (omega (arith, e))), h)
 memory_line untold_eval before now h = tt
 memory_line untold_gen before now h = tt
+memory_line untold_run before now h = tt
+memory_line unheard before now h = tt
 
 -- what a command tells that has no text, where its reason fits the outcome
 pub stop_lines : (o : Outcome) (stop : Stop) (before now : Option (List ℕ)) → StopFits o stop → GrewWithin before now (stop_line stop) → ErrGets o (stop_status stop) before now
 stop_lines o (stops.Refusal r) before now fits h = subst (λ p. ErrGets p (stop_status (stops.Refusal r)) before now) (sym fits) (refusal_line r before now h)
 stop_lines o stops.Shelf before now fits h = shelf_line o before now h
+stop_lines o stops.Link before now fits h = link_line o before now h
 stop_lines o stops.Memory before now fits h = memory_line o before now h
 
 pub eval_stop : (settings : EvalSettings) (files : Option Files) (stop : Stop) (before now : Option (List ℕ))
@@ -83,13 +145,15 @@ gen_stop settings (Some held) stop before now fits h = stop_lines (gen_file_outc
 
 -- ---- statuses
 
-own_status : (o : Outcome) (r : Refusal) (S K : Type 0) → o ≡ refusal r → MayStand o S K (status_of r)
-own_status o r S K e = subst (λ p. MayStand p S K (status_of r)) (sym e) (inl refl)
+own_status : (o : Outcome) (r : Refusal) (S L K : Type 0) → o ≡ refusal r → MayStand o S L K (status_of r)
+own_status o r S L K e = subst (λ p. MayStand p S L K (status_of r)) (sym e) (inl refl)
 
-pub fault_status : (o : Outcome) (stop : Stop) (S K : Type 0) → IsTrue (asks_shelf o) → StopFits o stop → (stop ≡ stops.Shelf → S) → MayStand o S K (stop_status stop)
-fault_status o (stops.Refusal r) S K asks fits rose = own_status o r S K fits
-fault_status o stops.Shelf S K asks fits rose = inr (inl (refl, asks, rose refl))
-fault_status o stops.Memory S K asks fits rose = inr (inr (inr refl))
+pub fault_status : (o : Outcome) (stop : Stop) (S L K : Type 0) → IsTrue (asks_shelf o) → StopFits o stop → (stop ≡ stops.Shelf → S)
+    → (stop ≡ stops.Link → L) → MayStand o S L K (stop_status stop)
+fault_status o (stops.Refusal r) S L K asks fits shelf link = own_status o r S L K fits
+fault_status o stops.Shelf S L K asks fits shelf link = inr (inl (refl, asks, shelf refl))
+fault_status o stops.Link S L K asks fits shelf link = inr (inr (inl (refl, link refl)))
+fault_status o stops.Memory S L K asks fits shelf link = inr (inr (inr (inr refl)))
 
 eval_asks : (settings : EvalSettings) (bytes : List ℕ) (c : FileCase) → IsTrue (asks_shelf (eval_case settings bytes c))
 eval_asks settings bytes (too_long n) = refl
@@ -106,15 +170,17 @@ file_asks : (settings : EvalSettings) (found : Option (List ℕ)) → IsTrue (as
 file_asks settings None = refl
 file_asks settings (Some bytes) = eval_asks settings bytes (file_case settings.side bytes)
 
-untold_status : (stop : Stop) (S K : Type 0) → IsEvalStop stop → (stop ≡ stops.Shelf → S) → MayStand untold_eval S K (stop_status stop)
-untold_status (stops.Refusal r) S K own rose = inl (inr own)
-untold_status stops.Shelf S K own rose = inr (inl (refl, refl, rose refl))
-untold_status stops.Memory S K own rose = inr (inr (inr refl))
+untold_status : (stop : Stop) (S L K : Type 0) → IsEvalStop stop → (stop ≡ stops.Shelf → S) → MayStand untold_eval S L K (stop_status stop)
+untold_status (stops.Refusal r) S L K own rose = inl (inr own)
+untold_status stops.Shelf S L K own rose = inr (inl (refl, refl, rose refl))
+untold_status stops.Link S L K own rose = absurd own
+untold_status stops.Memory S L K own rose = inr (inr (inr (inr refl)))
 
 -- the status of a reason to stop may stand
-pub eval_status : (settings : EvalSettings) (files : Option Files) (stop : Stop) (S K : Type 0) → IsEvalStop stop
+pub eval_status : (settings : EvalSettings) (files : Option Files) (stop : Stop) (S L K : Type 0) → IsEvalStop stop
     → IfSome files (λ held. StopFits (eval_file_outcome settings (get held settings.file)) stop) → (stop ≡ stops.Shelf → S)
-    → MayStand (eval_told settings files) S K (stop_status stop)
-eval_status settings None stop S K own fits rose = untold_status stop S K own rose
-eval_status settings (Some held) stop S K own fits rose =
-    fault_status (eval_file_outcome settings (get held settings.file)) stop S K (file_asks settings (get held settings.file)) fits rose
+    → MayStand (eval_told settings files) S L K (stop_status stop)
+eval_status settings None stop S L K own fits rose = untold_status stop S L K own rose
+eval_status settings (Some held) stop S L K own fits rose =
+    fault_status (eval_file_outcome settings (get held settings.file)) stop S L K (file_asks settings (get held settings.file)) fits rose
+    (λ link. absurd (subst IsEvalStop link own))

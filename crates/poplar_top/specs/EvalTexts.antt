@@ -4,8 +4,8 @@ use Rattle.std.specs.List.{flat_map}
 use Rattle.std.specs.Fmt.{decimal}
 use Rattle.hex.specs.Hex.{encode_lower}
 use Rattle.definitions.specs.declared.Side.{Side}
-use Rattle.definitions.specs.Sides.{side_number}
 use Rattle.definitions.specs.Evaluation.{Share, Node, node}
+use Rattle.answer_text.specs.RefusedText.{refused_line}
 use Rattle.share_format.specs.declared.records.Record.{Record}
 use Rattle.share_format.specs.declared.records.Record.TheVariants as given
 use Rattle.share_format.specs.ShareFile.{RecordCase, shares_of, malformed_from}
@@ -21,10 +21,6 @@ value_line side prefix share = node_line share.id (node share side prefix)
 -- a line for each share of the records, in order
 unfoldable pub value_lines : Side → List Bool → List RecordCase → List ℕ
 value_lines side prefix cases = flat_map (value_line side prefix) (shares_of cases)
-
--- the line of a malformed record, by its number
-abbrev pub refused_line : Side → ℕ → List ℕ
-refused_line side number = codes "refused side " ++ (decimal (side_number side) ++ (codes " record " ++ (decimal number ++ codes "\n")))
 
 -- a line for each malformed record, ascending
 unfoldable pub refused_lines : Side → List RecordCase → List ℕ

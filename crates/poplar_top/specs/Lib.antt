@@ -1,10 +1,12 @@
-pub mod Values
-pub mod Settings
 pub mod Refusals
 pub mod EvalTexts
 pub mod Readers
 pub mod Outcomes
 pub mod Statuses
 pub mod Stops
+pub mod RunStops
+pub mod RunOutcomes
+pub mod RunLinks
+pub mod Commands
 pub mod Makings
 pub mod Laws

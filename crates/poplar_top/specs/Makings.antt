@@ -5,7 +5,7 @@ use Rattle.std.specs.FinMap.{get}
 use Rattle.shelf_io.specs.Files.{Files}
 use Rattle.pair_files.specs.PairFiles.{with_both}
 use Rattle.poplar_top.specs.declared.stop.Stop.{Stop}
-use Rattle.poplar_top.specs.Settings.{GenSettings}
+use Rattle.command_words.specs.Settings.{GenSettings}
 use Rattle.poplar_top.specs.Outcomes.{gen_file_outcome, gen_told}
 use Rattle.poplar_top.specs.Outcomes.Outcome.{writes}
 use Rattle.poplar_top.specs.Statuses.{ShelfGets}

@@ -1,19 +1,19 @@
 -- What the words and the told files come to, with the causes in their order.
-use Rattle.std.specs.Prelude.{ℕ, ◌*◌, ◌^◌, List, Option, None, Some, codes, length, nat_lt}
-use Rattle.std.specs.Str.{bytes_eq}
+use Rattle.std.specs.Prelude.{ℕ, ◌*◌, ◌^◌, List, Option, None, Some, length, nat_lt}
 use Rattle.std.specs.Bool.{if◌then◌else◌}
 use Rattle.std.specs.FinMap.{get}
 use Rattle.shelf_io.specs.Files.{Files}
 use Rattle.share_format.specs.ShareFile.{FileCase, too_long, header_wrong, cut, whole, file_case, records}
 use Rattle.text_strings.specs.Lines.{LinesCase, too_many, line_long, zero_byte, strings, lines_case}
 use Rattle.pair_files.specs.Made.{zero_text, one_text}
-use Rattle.poplar_top.specs.Settings.{EvalSettings, eval_words, GenSettings, gen_words, word_at}
+use Rattle.command_words.specs.Settings.{EvalSettings, eval_words, GenSettings, gen_words}
 use Rattle.poplar_top.specs.EvalTexts.{value_lines, refused_lines}
 use Rattle.poplar_top.specs.declared.refusal.Refusal.{Refusal}
 use Rattle.poplar_top.specs.declared.refusal.Refusal.TheVariants.{Missing, TooLong, Header, Cut, LongPrefix, NoStrings, StringsLong, TooMany, LineLong, ZeroByte}
 
 -- The words give no settings; a refusal; the texts of out and of err; two names and the texts that they are to hold; or
--- nothing is said, since the shelf does not tell what `eval` or `gen` was to read.
+-- nothing is said, since the shelf does not tell what `eval`, `gen` or `run` was to read, or since the link does not tell
+-- what passed on it, so that how the walk of told files ended is not said.
 pub data Outcome : Type 0 where
   usage : Outcome
   refusal : Refusal → Outcome
@@ -21,6 +21,8 @@ pub data Outcome : Type 0 where
   writes : List ℕ → List ℕ → List ℕ → List ℕ → Outcome
   untold_eval : Outcome
   untold_gen : Outcome
+  untold_run : Outcome
+  unheard : Outcome
 
 -- `eval` of a file's bytes in the case that they are
 abbrev pub eval_case : EvalSettings → List ℕ → FileCase → Outcome
@@ -78,10 +80,3 @@ gen_settled (Some settings) files = gen_told settings files
 
 abbrev pub gen_outcome : List (List ℕ) → Option Files → Outcome
 gen_outcome words files = gen_settled (gen_words words) files
-
--- ---- all commands
-
--- what the words and the told files come to, by the first word; every command that is not built is usage
-abbrev pub outcome : List (List ℕ) → Option Files → Outcome
-outcome words files =
-    if bytes_eq (word_at words 0) (codes "gen") then gen_outcome words files else eval_outcome words files

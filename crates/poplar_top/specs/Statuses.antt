@@ -6,10 +6,10 @@ use Rattle.shelf_io.specs.Files.{Files}
 use Rattle.pair_files.specs.PairFiles.{with_both, HoldFronts}
 use Rattle.shelf_io.specs.Texts.{Grew, GrewWithin}
 use Rattle.poplar_top.specs.Outcomes.{Outcome}
-use Rattle.poplar_top.specs.Outcomes.Outcome.{usage, refusal, texts, writes, untold_eval, untold_gen}
+use Rattle.poplar_top.specs.Outcomes.Outcome.{usage, refusal, texts, writes, untold_eval, untold_gen, untold_run, unheard}
 use Rattle.poplar_top.specs.Refusals.{status_of, line_of}
 
--- the status of the outcome itself; of what a shelf does not tell, any that an outcome has
+-- the status of the outcome itself; of what a shelf or a link does not tell, any that an outcome has
 abbrev pub IsOwn : Outcome → ℕ → Type 0
 IsOwn usage status = status ≡ 2
 IsOwn (refusal r) status = status ≡ status_of r
@@ -17,6 +17,8 @@ IsOwn (texts out err) status = status ≡ 0
 IsOwn (writes zero_name zero_text one_name one_text) status = status ≡ 0
 IsOwn untold_eval status = (status ≡ 0) ⊎ (status ≡ 3) ⊎ (status ≡ 4)
 IsOwn untold_gen status = (status ≡ 0) ⊎ (status ≡ 11)
+IsOwn untold_run status = (status ≡ 0) ⊎ (status ≡ 3) ⊎ (status ≡ 4) ⊎ (status ≡ 5) ⊎ (status ≡ 9)
+IsOwn unheard status = (status ≡ 0) ⊎ (status ≡ 5) ⊎ (status ≡ 9)
 
 -- whether the shelf was asked by then
 abbrev pub asks_shelf : Outcome → Bool
@@ -26,6 +28,8 @@ asks_shelf (texts out err) = true
 asks_shelf (writes zero_name zero_text one_name one_text) = true
 asks_shelf untold_eval = true
 asks_shelf untold_gen = true
+asks_shelf untold_run = true
+asks_shelf unheard = true
 
 -- whether the sinks were written by then
 abbrev pub asks_sinks : Outcome → Bool
@@ -35,11 +39,15 @@ asks_sinks (texts out err) = true
 asks_sinks (writes zero_name zero_text one_name one_text) = false
 asks_sinks untold_eval = true
 asks_sinks untold_gen = false
+asks_sinks untold_run = true
+asks_sinks unheard = true
 
--- The status is the outcome's own; or that of an object that was asked by then and whose count rose; or 8, for want of memory.
-abbrev pub MayStand : Outcome → Type 0 → Type 0 → ℕ → Type 0
-MayStand o shelf_rose sink_rose status =
-    IsOwn o status ⊎ ((status ≡ 6) × IsTrue (asks_shelf o) × shelf_rose) ⊎ ((status ≡ 10) × IsTrue (asks_sinks o) × sink_rose) ⊎ (status ≡ 8)
+-- The status is the outcome's own; or that of an object that was asked by then and whose count rose (of the link, whose
+-- asking no outcome tells, `link_rose` says both); or 8, for want of memory.
+abbrev pub MayStand : Outcome → (shelf_rose : Type 0) → (link_rose : Type 0) → (sink_rose : Type 0) → ℕ → Type 0
+MayStand o shelf_rose link_rose sink_rose status =
+    IsOwn o status ⊎ ((status ≡ 6) × IsTrue (asks_shelf o) × shelf_rose) ⊎ ((status ≡ 7) × link_rose)
+    ⊎ ((status ≡ 10) × IsTrue (asks_sinks o) × sink_rose) ⊎ (status ≡ 8)
 
 -- out has the whole text on 0, a front of it on 8 and 10, and else nothing
 pub record Prints (before now : Option (List ℕ)) (text : List ℕ) (status : ℕ) : Type 0 where
@@ -55,18 +63,21 @@ OutGets (texts out err) status before now = Prints before now out status
 OutGets (writes zero_name zero_text one_name one_text) status before now = now ≡ before
 OutGets untold_eval status before now = status ≢ 0 → status ≢ 8 → status ≢ 10 → now ≡ before
 OutGets untold_gen status before now = now ≡ before
+OutGets untold_run status before now = status ≢ 0 → status ≢ 8 → status ≢ 10 → now ≡ before
+OutGets unheard status before now = status ≢ 0 → status ≢ 8 → status ≢ 10 → now ≡ before
 
 -- the line of a status that is no refusal's
 abbrev pub fault_line : ℕ → List ℕ
 fault_line status =
     if nat_eq status 2 then codes "usage: poplar eval, gen, run, find, make, upgrade\n"
     else if nat_eq status 6 then codes "shelf fault\n"
+    else if nat_eq status 7 then codes "link fault\n"
     else if nat_eq status 8 then codes "want of memory\n"
     else codes "sink fault\n"
 
 -- the statuses of objects that failed, and of want of memory
 abbrev pub is_fault : ℕ → Bool
-is_fault status = nat_eq status 6 || (nat_eq status 8 || nat_eq status 10)
+is_fault status = nat_eq status 6 || (nat_eq status 7 || (nat_eq status 8 || nat_eq status 10))
 
 -- the line that is told at a status
 abbrev pub line_at : Outcome → ℕ → List ℕ
@@ -76,15 +87,24 @@ line_at (texts out err) status = fault_line status
 line_at (writes zero_name zero_text one_name one_text) status = fault_line status
 line_at untold_eval status = fault_line status
 line_at untold_gen status = fault_line status
+line_at untold_run status = fault_line status
+line_at unheard status = fault_line status
 
--- on 0 err has its whole text; else a front of it, and behind that a front of the fault's line
+-- err has the whole text on 0, a front of it on 8 and 10, and else none; and behind that a front of the fault's line
+pub record Tells (before now : Option (List ℕ)) (text line : List ℕ) (status : ℕ) : Type 0 where
+  pub whole : status ≡ 0 → Grew before now text
+  pub front : (n m : ℕ) × Grew before now (take n text ++ take m line)
+  pub alone : status ≢ 0 → status ≢ 8 → status ≢ 10 → GrewWithin before now line
+
+-- what err gets
 abbrev pub ErrGets : Outcome → ℕ → Option (List ℕ) → Option (List ℕ) → Type 0
-ErrGets (texts out err) status before now =
-    (status ≡ 0 → Grew before now err) × ((n m : ℕ) × Grew before now (take n err ++ take m (fault_line status)))
+ErrGets (texts out err) status before now = Tells before now err (fault_line status) status
 ErrGets (writes zero_name zero_text one_name one_text) status before now =
     (status ≡ 0 → now ≡ before) × GrewWithin before now (fault_line status)
 ErrGets untold_eval status before now = Unit {0}
 ErrGets untold_gen status before now = Unit {0}
+ErrGets untold_run status before now = Unit {0}
+ErrGets unheard status before now = Unit {0}
 ErrGets usage status before now = GrewWithin before now (line_at usage status)
 ErrGets (refusal r) status before now = GrewWithin before now (line_at (refusal r) status)
 
@@ -99,3 +119,5 @@ ShelfGets (refusal r) status before now = now ≡ before
 ShelfGets (texts out err) status before now = now ≡ before
 ShelfGets untold_eval status before now = now ≡ before
 ShelfGets untold_gen status before now = Unit {0}
+ShelfGets untold_run status before now = now ≡ before
+ShelfGets unheard status before now = now ≡ before

@@ -7,7 +7,7 @@ use Rattle.poplar_top.specs.declared.stop.Stop.TheVariants as stops
 use Rattle.definitions.specs.declared.Side.{Side}
 use Rattle.share_format.specs.declared.file_error.FileError.{FileError}
 use Rattle.share_format.specs.declared.file_error.FileError.TheVariants as errors
-use Rattle.poplar_top.specs.declared.refusal.Refusal.TheVariants.{Missing, TooLong, Header, Cut, LongPrefix, NoStrings, StringsLong, TooMany, LineLong, ZeroByte}
+use Rattle.poplar_top.specs.declared.refusal.Refusal.TheVariants.{Missing, TooLong, Header, Cut, LongPrefix, NoStrings, StringsLong, TooMany, LineLong, ZeroByte, Widths, Walk}
 use Rattle.text_strings.specs.Lines.{LinesCase, too_many, line_long, zero_byte}
 use Rattle.text_strings.specs.declared.lines_error.LinesError.{LinesError}
 use Rattle.text_strings.specs.declared.lines_error.LinesError.TheVariants as lines
@@ -19,17 +19,20 @@ use Rattle.poplar_top.specs.Outcomes.Outcome.{refusal}
 abbrev pub StopFits : Outcome → Stop → Type 0
 StopFits o (stops.Refusal r) = o ≡ refusal r
 StopFits o stops.Shelf = Unit {0}
+StopFits o stops.Link = Unit {0}
 StopFits o stops.Memory = Unit {0}
 
 -- the status and the line of a reason
 abbrev pub stop_status : Stop → ℕ
 stop_status (stops.Refusal r) = status_of r
 stop_status stops.Shelf = 6
+stop_status stops.Link = 7
 stop_status stops.Memory = 8
 
 abbrev pub stop_line : Stop → List ℕ
 stop_line (stops.Refusal r) = line_of r
 stop_line stops.Shelf = codes "shelf fault\n"
+stop_line stops.Link = codes "link fault\n"
 stop_line stops.Memory = codes "want of memory\n"
 
 -- the status of a refused write
@@ -50,6 +53,7 @@ file_stop side errors.Memory = stops.Memory
 abbrev pub IsNoRefusal : Stop → Type 0
 IsNoRefusal (stops.Refusal r) = ⊥
 IsNoRefusal stops.Shelf = Unit {0}
+IsNoRefusal stops.Link = Unit {0}
 IsNoRefusal stops.Memory = Unit {0}
 
 -- why a strings file that holds no strings gives none
@@ -71,18 +75,23 @@ FitsLines found (stops.Refusal (Cut side at)) = ⊥
 FitsLines found (stops.Refusal (LongPrefix bits width)) = ⊥
 FitsLines found (stops.Refusal NoStrings) = ⊥
 FitsLines found (stops.Refusal StringsLong) = ⊥
+FitsLines found (stops.Refusal (Widths zero one)) = ⊥
+FitsLines found (stops.Refusal (Walk why)) = ⊥
 FitsLines found stops.Shelf = ⊥
+FitsLines found stops.Link = ⊥
 FitsLines found stops.Memory = Unit {0}
 
--- a reason that is a refusal has one of the statuses that `eval` has, or one that `gen` has
+-- a reason that is a refusal has one of the statuses that `eval` has, or one that `gen` has; the link is asked by neither
 abbrev pub IsEvalStop : Stop → Type 0
 IsEvalStop (stops.Refusal r) = (status_of r ≡ 3) ⊎ (status_of r ≡ 4)
 IsEvalStop stops.Shelf = Unit {0}
+IsEvalStop stops.Link = ⊥
 IsEvalStop stops.Memory = Unit {0}
 
 abbrev pub IsGenStop : Stop → Type 0
 IsGenStop (stops.Refusal r) = status_of r ≡ 11
 IsGenStop stops.Shelf = Unit {0}
+IsGenStop stops.Link = ⊥
 IsGenStop stops.Memory = Unit {0}
 
 -- more bytes than a strings file may have
@@ -102,5 +111,8 @@ FitsFile found (stops.Refusal (TooLong side)) = ⊥
 FitsFile found (stops.Refusal (Header side at)) = ⊥
 FitsFile found (stops.Refusal (Cut side at)) = ⊥
 FitsFile found (stops.Refusal (LongPrefix bits width)) = ⊥
+FitsFile found (stops.Refusal (Widths zero one)) = ⊥
+FitsFile found (stops.Refusal (Walk why)) = ⊥
 FitsFile found stops.Shelf = Unit {0}
+FitsFile found stops.Link = ⊥
 FitsFile found stops.Memory = Unit {0}

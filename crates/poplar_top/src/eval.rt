@@ -10,33 +10,20 @@ ghost use Rattle.share_format.specs.Readings.{Fits};
 ghost use Rattle.poplar_top.specs.Outcomes.{eval_file_outcome};
 ghost use Rattle.poplar_top.specs.Outcomes.Outcome.{texts};
 ghost use Rattle.poplar_top.specs.EvalTexts.{value_lines, refused_lines, given_value, given_refusal, IsShort};
-ghost use Rattle.poplar_top.specs.Stops.{StopFits, IsNoRefusal, IsEvalStop, file_stop};
+ghost use Rattle.poplar_top.specs.Stops.{StopFits, IsNoRefusal, IsEvalStop};
 ghost use Rattle.poplar_top.specs.Readers.{is_more, Went};
 ghost use Rattle.share_format.specs.Answers.{record_answer};
 
-use crate::lines::{refused_text, value_text};
+use crate::lines::value_text;
 use crate::refusal::Refusal;
-use crate::stop::Stop;
+use crate::stop::{Stop, stop_of_file};
 use crate::telling::Texts;
-use crate::words::EvalAsked;
+use answer_text::refused_line;
+use command_words::EvalAsked;
 use prefix_bits::{Prefix, Side};
-use share_format::{FileError, Record, RecordReader};
+use share_format::{Record, RecordReader};
 use shelf_io::Shelf;
 use std::alloc::{AllocError, Global};
-
-// Why a file of a side that is not read whole gives no text.
-fn stop_of_file(error: FileError, side: Side) -> Stop
-    ensures value { result ≡ file_stop side error }
-{
-    match error {
-        FileError::Missing => Stop::Refusal(Refusal::Missing { side }),
-        FileError::TooLong { .. } => Stop::Refusal(Refusal::TooLong { side }),
-        FileError::Header { at } => Stop::Refusal(Refusal::Header { side, at }),
-        FileError::Cut { at } => Stop::Refusal(Refusal::Cut { side, at }),
-        FileError::Shelf => Stop::Shelf,
-        FileError::Memory => Stop::Memory,
-    }
-}
 
 // Adds to the texts what a reader gave.
 fn add_given(
@@ -56,7 +43,7 @@ fn add_given(
             written.out.extend_from_slice(line.as_bytes())
         }
         Record::Malformed(place) => {
-            let line = refused_text(alloc, side, *place)?;
+            let line = refused_line(alloc, side, *place)?;
             written.err.extend_from_slice(line.as_bytes())
         }
         Record::End => Ok(()),

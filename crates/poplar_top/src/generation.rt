@@ -14,7 +14,7 @@ ghost use Rattle.poplar_top.specs.Stops.{StopFits, FitsFile, FitsLines, IsGenSto
 
 use crate::refusal::Refusal;
 use crate::stop::{Stop, stop_of};
-use crate::words::GenAsked;
+use command_words::GenAsked;
 use pair_files::{PairSettings, write_pairs};
 use prefix_bits::Prefix;
 use shelf_io::{Shelf, read_whole};

@@ -7,13 +7,14 @@ mod generation;
 pub mod laws;
 mod lines;
 mod refusal;
+mod run;
 mod stop;
 mod telling;
 #[cfg(test)]
 mod tests;
 mod top;
-mod values;
-mod words;
+mod walk_refusal;
 
 pub use crate::refusal::Refusal;
 pub use crate::top::{eval_file, gen_files, poplar};
+pub use crate::walk_refusal::WalkRefusal;

@@ -1,11 +1,10 @@
-//! The lines of `eval`: the value of a share, and the number of a malformed record.
+//! The lines of `eval`: an id and the value of its share at a prefix.
 //! Their spelling stands in specs/EvalTexts.antt.
 
 ghost use Rattle.std.specs.Prelude.{◌≡◌, ◌≤◌, IfOk, length};
 ghost use Rattle.std.specs.String.{string_bytes};
-ghost use Rattle.poplar_top.specs.EvalTexts.{node_line, value_line, refused_line};
+ghost use Rattle.poplar_top.specs.EvalTexts.{node_line, value_line};
 
-use crate::refusal::number;
 use idpf_eval::{Node, Share, eval_uncounted};
 use prefix_bits::{Prefix, ReportId, Side};
 use std::alloc::{AllocError, Global};
@@ -32,12 +31,4 @@ pub(crate) fn value_text(
 {
     let node = eval_uncounted(share, side, prefix);
     node_text(alloc, &share.id, &node)
-}
-
-/// The line of a malformed record of a side's file, by its place in the file, counted from 0.
-pub(crate) fn refused_text(alloc: Global, side: Side, place: u32) -> Result<String, AllocError>
-    ensures line { IfOk result (λ line. string_bytes line ≡ refused_line side place) }
-{
-    let side = number(side);
-    format!(in alloc; "refused side {side} record {place}\n")
 }

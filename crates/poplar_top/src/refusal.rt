@@ -6,6 +6,7 @@ ghost use Rattle.std.specs.String.{string_bytes};
 ghost use Rattle.definitions.specs.Sides.{side_number};
 ghost use Rattle.poplar_top.specs.Refusals.{status_of, line_of};
 
+use crate::walk_refusal::{self, WalkRefusal};
 use prefix_bits::Side;
 use std::alloc::{AllocError, Global};
 
@@ -62,6 +63,15 @@ pub enum Refusal {
         /// The first line at fault, counted from 0.
         line: u32,
     },
+    /// The two share files have strings of different widths.
+    Widths {
+        /// The width of side 0's strings, in bytes.
+        zero: u8,
+        /// The width of side 1's strings, in bytes.
+        one: u8,
+    },
+    /// The walk over the two share files ended without an answer.
+    Walk(WalkRefusal),
 }
 
 /// A side's number.
@@ -83,12 +93,13 @@ pub(crate) fn status(refusal: Refusal) -> u8
         | Refusal::TooLong { .. }
         | Refusal::Header { .. }
         | Refusal::Cut { .. } => 3,
-        Refusal::LongPrefix { .. } => 4,
+        Refusal::LongPrefix { .. } | Refusal::Widths { .. } => 4,
         Refusal::NoStrings
         | Refusal::StringsLong
         | Refusal::TooMany { .. }
         | Refusal::LineLong { .. }
         | Refusal::ZeroByte { .. } => 11,
+        Refusal::Walk(why) => walk_refusal::status(why),
     }
 }
 
@@ -121,5 +132,7 @@ pub(crate) fn line(alloc: Global, refusal: Refusal) -> Result<String, AllocError
         Refusal::TooMany { lines } => format!(in alloc; "strings: {lines} lines are too many\n"),
         Refusal::LineLong { line } => format!(in alloc; "strings: line {line} is too long\n"),
         Refusal::ZeroByte { line } => format!(in alloc; "strings: line {line} has a zero byte\n"),
+        Refusal::Widths { zero, one } => format!(in alloc; "widths differ: {zero} and {one}\n"),
+        Refusal::Walk(why) => walk_refusal::line(alloc, why),
     }
 }

@@ -1,18 +1,23 @@
 //! Why there is no text to write.
-//! A refusal is that of the words and files; the others are faults met on the way.
+//! A refusal is that of the words, files and messages; the others are faults met on the way.
 
 ghost use Rattle.std.specs.Prelude.{◌≡◌, ◌⊎◌};
+ghost use Rattle.poplar_top.specs.Stops.{file_stop};
 
 use crate::refusal::Refusal;
+use prefix_bits::Side;
+use share_format::FileError;
 use shelf_io::Refused;
 
 /// Why a command has no text.
 #[derive(Clone, Copy, Debug, PartialEq, Eq)]
 pub(crate) enum Stop {
-    /// The words and files come to a refusal.
+    /// The words and files, or the walk over them, come to a refusal.
     Refusal(Refusal),
     /// A call of the shelf failed.
     Shelf,
+    /// A call of the link failed.
+    Link,
     /// Memory was wanting.
     Memory,
 }
@@ -25,5 +30,19 @@ pub(crate) fn stop_of(refused: Refused) -> Stop
     match refused {
         Refused::Failed => Stop::Shelf,
         Refused::Memory => Stop::Memory,
+    }
+}
+
+/// Why a side's file that is not read whole gives no text.
+pub(crate) fn stop_of_file(error: FileError, side: Side) -> Stop
+    ensures value { result ≡ file_stop side error }
+{
+    match error {
+        FileError::Missing => Stop::Refusal(Refusal::Missing { side }),
+        FileError::TooLong { .. } => Stop::Refusal(Refusal::TooLong { side }),
+        FileError::Header { at } => Stop::Refusal(Refusal::Header { side, at }),
+        FileError::Cut { at } => Stop::Refusal(Refusal::Cut { side, at }),
+        FileError::Shelf => Stop::Shelf,
+        FileError::Memory => Stop::Memory,
     }
 }

@@ -54,6 +54,10 @@ pub(crate) fn tell_stop<E: Sink>(alloc: Global, err: &mut E, stop: Stop) -> u8
             tell(err, b"shelf fault\n");
             6
         }
+        Stop::Link => {
+            tell(err, b"link fault\n");
+            7
+        }
         Stop::Memory => {
             tell(err, b"want of memory\n");
             8
@@ -80,17 +84,22 @@ fn tell_sink<E: Sink>(err: &mut E, refused: Refused) -> u8
 }
 
 /// Writes the text of out and then that of err, and gives the status.
-pub(crate) fn write_texts<K: Sink, E: Sink>(out: &mut K, err: &mut E, written: &Texts) -> u8
+pub(crate) fn write_texts<K: Sink, E: Sink>(
+    out: &mut K,
+    err: &mut E,
+    text: &[u8],
+    lines: &[u8],
+) -> u8
     ensures status { (result ≡ 0) ⊎ (((result ≡ 10) × (Rose (K.faults out.old) (K.faults out.new) ⊎ Rose (E.faults err.old) (E.faults err.new))) ⊎ (result ≡ 8)) }
-    ensures out { Prints (K.taken out.old) (K.taken out.new) written.now.out.items result }
-    ensures err { ErrGets (texts written.now.out.items written.now.err.items) result (E.taken err.old) (E.taken err.new) }
+    ensures out { Prints (K.taken out.old) (K.taken out.new) text.now result }
+    ensures err { ErrGets (texts text.now lines.now) result (E.taken err.old) (E.taken err.new) }
     ensures out_later { K.faults out.old ≤ K.faults out.new }
     ensures err_later { E.faults err.old ≤ E.faults err.new }
 {
-    if let Err(refused) = write_all(out, &written.out) {
+    if let Err(refused) = write_all(out, text) {
         return tell_sink(err, refused);
     }
-    if let Err(refused) = write_all(err, &written.err) {
+    if let Err(refused) = write_all(err, lines) {
         return tell_sink(err, refused);
     }
     0

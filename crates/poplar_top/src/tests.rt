@@ -4,10 +4,15 @@
 mod eval;
 mod generating;
 mod pairs;
+mod running;
+mod twisting;
 
-use crate::{eval_file, gen_files};
-use shelf_io::{Call, FirmSink, MemoryShelf, Shelf};
+use crate::{eval_file, gen_files, poplar};
+use field64::Fe;
+use shelf_io::{Call, FirmSink, Link, MemoryShelf, OpenGate, Shelf};
 use std::alloc::{AllocError, Global};
+use std::sync::Wait;
+use std::thread::Threads;
 
 // The header of a share file of width 1.
 const HEADER: [u8; 8] = [0x50, 0x50, 0x4c, 0x52, 1, 0, 1, 0];
@@ -59,4 +64,56 @@ fn generates<H: Shelf>(
     let words = words_of(alloc, list)?;
     let ended = gen_files(alloc, &words, shelf, &mut err);
     Ok(ended == status && err.bytes() == lines.as_bytes())
+}
+
+// What a command is to come to: the status, out and err.
+type Expected<'a> = (u8, &'a str, &'a str);
+
+// Whether the program ends so with these words over a shelf and a link.
+fn runs<R: Threads + Wait + Sync, H: Shelf, L: Link>(
+    rt: &R,
+    alloc: Global,
+    shelf: &mut H,
+    link: &mut L,
+    list: &[&str],
+    expected: Expected<'_>,
+) -> Result<bool, AllocError> {
+    let mut out = FirmSink::new(alloc);
+    let mut err = FirmSink::new(alloc);
+    let words = words_of(alloc, list)?;
+    let ended = poplar(
+        rt, alloc, &words, shelf, &mut out, &mut err, link, &OpenGate,
+    );
+    let (status, text, lines) = expected;
+    Ok(ended == status && out.bytes() == text.as_bytes() && err.bytes() == lines.as_bytes())
+}
+
+// A shelf on which `gen` made both share files of a text of strings.
+fn with_shares(
+    alloc: Global,
+    shelf: MemoryShelf,
+    width: &str,
+    text: &[u8],
+    zero: &str,
+    one: &str,
+) -> Result<MemoryShelf, AllocError> {
+    let mut shelf = shelf.with("strings", text)?;
+    let words = [
+        "gen", "--width", width, "--master", MASTER, "strings", zero, one,
+    ];
+    generates(alloc, &mut shelf, &words, 0, "")?;
+    Ok(shelf)
+}
+
+// Adds 1 to the element at a place, where there is one.
+fn raise(bytes: &mut [u8], place: usize) {
+    if bytes.len() < 8 || place > bytes.len() - 8 {
+        return;
+    }
+    let mut number = [0; 8];
+    number.copy_from_slice(&bytes[place..place + 8]);
+    if let Some(element) = Fe::new(u64::from_le_bytes(number)) {
+        let raised = element.add(Fe::one()).number();
+        bytes[place..place + 8].copy_from_slice(&raised.to_le_bytes());
+    }
 }

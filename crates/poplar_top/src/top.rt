@@ -1,18 +1,25 @@
 //! The top calls: each command from its words to its status.
 //! What is written and which status may stand is said by the outcome of the words and the told files.
 
-ghost use Rattle.std.specs.Prelude.{◌≡◌, ◌≤◌, ◌⊎◌, codes, map};
+ghost use Rattle.std.specs.Prelude.{◌≡◌, ◌≤◌, ◌⊎◌, ◌≢◌, Some, IsTrue, map};
 ghost use Rattle.std.specs.String.{string_bytes};
-ghost use Rattle.std.specs.Str.{bytes_eq};
-ghost use Rattle.poplar_top.specs.Settings.{word_at};
 ghost use Rattle.shelf_io.specs.Faults.{Rose};
-ghost use Rattle.poplar_top.specs.Outcomes.{outcome, eval_outcome, gen_outcome};
+ghost use Rattle.walk_definitions.specs.Walk.{walk};
+ghost use Rattle.pair_run.specs.Talking.{IsReady};
+ghost use Rattle.file_run.specs.Hearings.{heard_ending};
+ghost use Rattle.command_words.specs.RunSettings.{run_words};
+ghost use Rattle.poplar_top.specs.Commands.{runs, command_of, outcome, walks, Sends, Finds, Meets};
+ghost use Rattle.poplar_top.specs.Outcomes.{eval_outcome, gen_outcome};
+ghost use Rattle.poplar_top.specs.RunOutcomes.{run_outcome, run_walks};
+ghost use Rattle.poplar_top.specs.RunLinks.{RunSends, RunFinds};
 ghost use Rattle.poplar_top.specs.Statuses.{MayStand, OutGets, ErrGets, ShelfGets};
 
 use crate::eval::eval_texts;
 use crate::generation::make_files;
+use crate::run::stop_of_run;
 use crate::telling::{tell, tell_stop, write_texts};
-use crate::words::{read_eval, read_gen};
+use command_words::{is_command, read_eval, read_gen, read_run};
+use file_run::{RunRules, run_files};
 use shelf_io::{Gate, Link, Shelf, Sink};
 use std::alloc::Global;
 use std::sync::Wait;
@@ -34,7 +41,7 @@ pub fn eval_file<H: Shelf, K: Sink, E: Sink>(
     err: &mut E,
 ) -> u8
     ensures status { MayStand (eval_outcome (map string_bytes words.now) (H.files shelf.old))
-        (Rose (H.faults shelf.old) (H.faults shelf.new))
+        (Rose (H.faults shelf.old) (H.faults shelf.new)) ⊥
         (Rose (K.faults out.old) (K.faults out.new) ⊎ Rose (E.faults err.old) (E.faults err.new)) result }
     ensures out { OutGets (eval_outcome (map string_bytes words.now) (H.files shelf.old)) result (K.taken out.old) (K.taken out.new) }
     ensures err { ErrGets (eval_outcome (map string_bytes words.now) (H.files shelf.old)) result (E.taken err.old) (E.taken err.new) }
@@ -46,7 +53,7 @@ pub fn eval_file<H: Shelf, K: Sink, E: Sink>(
         return 2;
     };
     match eval_texts(alloc, &asked, shelf) {
-        Ok(written) => write_texts(out, err, &written),
+        Ok(written) => write_texts(out, err, &written.out, &written.err),
         Err(stop) => tell_stop(alloc, err, stop),
     }
 }
@@ -63,7 +70,7 @@ pub fn gen_files<H: Shelf, E: Sink>(
     err: &mut E,
 ) -> u8
     ensures status { MayStand (gen_outcome (map string_bytes words.now) (H.files shelf.old))
-        (Rose (H.faults shelf.old) (H.faults shelf.new)) (Rose (E.faults err.old) (E.faults err.new)) result }
+        (Rose (H.faults shelf.old) (H.faults shelf.new)) ⊥ (Rose (E.faults err.old) (E.faults err.new)) result }
     ensures err { ErrGets (gen_outcome (map string_bytes words.now) (H.files shelf.old)) result (E.taken err.old) (E.taken err.new) }
     ensures shelf { ShelfGets (gen_outcome (map string_bytes words.now) (H.files shelf.old)) result (H.files shelf.old) (H.files shelf.new) }
     ensures later { (H.faults shelf.old ≤ H.faults shelf.new) × (E.faults err.old ≤ E.faults err.new) }
@@ -78,38 +85,106 @@ pub fn gen_files<H: Shelf, E: Sink>(
     }
 }
 
-// Whether the first word is `gen`.
-fn is_gen(words: &[String]) -> bool
-    ensures value { result ≡ bytes_eq (word_at (map string_bytes words.now) 0) (codes "gen") }
-{
-    !words.is_empty() && words[0].as_str() == "gen"
-}
-
-/// The program: the words behind its name, a shelf for its files, sinks for its output and its lines, and the link and the
-/// gate that a walk uses. The first word is the command: `eval` or `gen`; every other is usage. The statuses are those of the
-/// commands. Link and gate are left alone.
-#[tactic(auto, using(crate::proofs::CommandSteps::command_steps))]
-pub fn poplar<R: Threads + Wait + Sync, H: Shelf, K: Sink, E: Sink, L: Link, G: Gate>(
-    _rt: &R,
+// `run`, the command first: the frequent strings of two share files, by a walk over the link.
+fn run_command<R: Threads + Wait + Sync, H: Shelf, K: Sink, E: Sink, L: Link, G: Gate>(
+    rt: &R,
     alloc: Global,
     words: &[String],
     shelf: &mut H,
     out: &mut K,
     err: &mut E,
-    _link: &mut L,
-    _gate: &G,
+    link: &mut L,
+    gate: &G,
 ) -> u8
-    ensures status { MayStand (outcome (map string_bytes words.now) (H.files shelf.old))
+    ensures status { MayStand (run_outcome (heard_ending (L.talk link.old) (L.talk link.new)) (map string_bytes words.now) (H.files shelf.old))
         (Rose (H.faults shelf.old) (H.faults shelf.new))
+        (IsTrue (run_walks (run_words (map string_bytes words.now)) (H.files shelf.old)) × Rose (L.faults link.old) (L.faults link.new))
         (Rose (K.faults out.old) (K.faults out.new) ⊎ Rose (E.faults err.old) (E.faults err.new)) result }
-    ensures out { OutGets (outcome (map string_bytes words.now) (H.files shelf.old)) result (K.taken out.old) (K.taken out.new) }
-    ensures err { ErrGets (outcome (map string_bytes words.now) (H.files shelf.old)) result (E.taken err.old) (E.taken err.new) }
-    ensures shelf { ShelfGets (outcome (map string_bytes words.now) (H.files shelf.old)) result (H.files shelf.old) (H.files shelf.new) }
+    ensures out { OutGets (run_outcome (heard_ending (L.talk link.old) (L.talk link.new)) (map string_bytes words.now) (H.files shelf.old))
+        result (K.taken out.old) (K.taken out.new) }
+    ensures err { ErrGets (run_outcome (heard_ending (L.talk link.old) (L.talk link.new)) (map string_bytes words.now) (H.files shelf.old))
+        result (E.taken err.old) (E.taken err.new) }
+    ensures truly { IsReady (L.is_true link.old) (L.talk link.old)
+        → Meets (run_outcome (Some walk) (map string_bytes words.now) (H.files shelf.old))
+        (Rose (H.faults shelf.old) (H.faults shelf.new))
+        (IsTrue (run_walks (run_words (map string_bytes words.now)) (H.files shelf.old)) × Rose (L.faults link.old) (L.faults link.new))
+        (Rose (K.faults out.old) (K.faults out.new) ⊎ Rose (E.faults err.old) (E.faults err.new)) result
+        (K.taken out.old) (K.taken out.new) (E.taken err.old) (E.taken err.new) }
+    ensures finds { RunFinds (run_words (map string_bytes words.now)) (H.files shelf.old) (L.is_true link.old) (L.talk link.old)
+        (K.taken out.old) (K.taken out.new) (E.taken err.old) (E.taken err.new) result }
+    ensures sends { RunSends (run_words (map string_bytes words.now)) (H.files shelf.old) (L.is_true link.old) (L.is_true link.new)
+        (L.talk link.old) (L.talk link.new) result }
+    ensures kept { H.files shelf.new ≡ H.files shelf.old }
     ensures later { (H.faults shelf.old ≤ H.faults shelf.new) × (K.faults out.old ≤ K.faults out.new) × (E.faults err.old ≤ E.faults err.new) }
-    ensures link { (L.talk _link.new ≡ L.talk _link.old) × (L.faults _link.new ≡ L.faults _link.old) }
+    ensures link_later { L.faults link.old ≤ L.faults link.new }
 {
-    if is_gen(words) {
+    let Some(asked) = read_run(words) else {
+        tell(err, USAGE);
+        return 2;
+    };
+    let rules = RunRules {
+        threshold: asked.threshold,
+        cap: asked.cap,
+        verify: asked.verify,
+    };
+    match run_files(rt, alloc, asked.zero, asked.one, &rules, shelf, link, gate) {
+        Ok(texts) => write_texts(out, err, &texts.out, &texts.err),
+        Err(error) => tell_stop(alloc, err, stop_of_run(error)),
+    }
+}
+
+/// The program: the words behind its name, a shelf for its files, sinks for its output and its lines, and the link and the
+/// gate that a walk uses. The first word is the command: `eval`, `gen` or `run`; every other is usage.
+///
+/// `run --threshold N [--cap N] [--verify SEED] FILE0 FILE1` reads side 0's share file whole, then side 1's, and walks the reports
+/// that both hold without clash over the link: out gets the frequent strings with their counts, ascending, and err a line for each
+/// malformed record and one for the end of the walk. The statuses of `run`, in the order of their causes:
+/// 2, the words give no settings; 3, a share file is not there, too long, with a wrong header or cut, side 1's only where side 0's is
+/// whole; 4, the widths differ; 5, a level has more candidates than the cap; 9, what a side received is not the expected message, or
+/// the two sides' sums differ; 0, the answer is written whole; 6, 7 and 10, the count of faults of the shelf, of the link, or of out
+/// or err rose; 8, want of memory. The statuses of `eval` and `gen` are those of `eval_file` and `gen_files`.
+///
+/// How a walk ends is told by what both sides received in the call; on a link that was true and idle it is the walk's own end, and 9
+/// never comes. The link passes just the walk's messages, and none where the words, the files or the widths are refused.
+#[tactic(auto, using(crate::proofs::CommandSteps::command_steps))]
+pub fn poplar<R: Threads + Wait + Sync, H: Shelf, K: Sink, E: Sink, L: Link, G: Gate>(
+    rt: &R,
+    alloc: Global,
+    words: &[String],
+    shelf: &mut H,
+    out: &mut K,
+    err: &mut E,
+    link: &mut L,
+    gate: &G,
+) -> u8
+    ensures status { MayStand (outcome (heard_ending (L.talk link.old) (L.talk link.new)) (map string_bytes words.now) (H.files shelf.old))
+        (Rose (H.faults shelf.old) (H.faults shelf.new))
+        (IsTrue (walks (map string_bytes words.now) (H.files shelf.old)) × Rose (L.faults link.old) (L.faults link.new))
+        (Rose (K.faults out.old) (K.faults out.new) ⊎ Rose (E.faults err.old) (E.faults err.new)) result }
+    ensures out { OutGets (outcome (heard_ending (L.talk link.old) (L.talk link.new)) (map string_bytes words.now) (H.files shelf.old))
+        result (K.taken out.old) (K.taken out.new) }
+    ensures err { ErrGets (outcome (heard_ending (L.talk link.old) (L.talk link.new)) (map string_bytes words.now) (H.files shelf.old))
+        result (E.taken err.old) (E.taken err.new) }
+    ensures shelf { ShelfGets (outcome (heard_ending (L.talk link.old) (L.talk link.new)) (map string_bytes words.now) (H.files shelf.old))
+        result (H.files shelf.old) (H.files shelf.new) }
+    ensures truly { IsReady (L.is_true link.old) (L.talk link.old)
+        → Meets (outcome (Some walk) (map string_bytes words.now) (H.files shelf.old))
+        (Rose (H.faults shelf.old) (H.faults shelf.new))
+        (IsTrue (walks (map string_bytes words.now) (H.files shelf.old)) × Rose (L.faults link.old) (L.faults link.new))
+        (Rose (K.faults out.old) (K.faults out.new) ⊎ Rose (E.faults err.old) (E.faults err.new)) result
+        (K.taken out.old) (K.taken out.new) (E.taken err.old) (E.taken err.new) }
+    ensures finds { Finds (map string_bytes words.now) (H.files shelf.old) (L.is_true link.old) (L.talk link.old)
+        (K.taken out.old) (K.taken out.new) (E.taken err.old) (E.taken err.new) result }
+    ensures sends { Sends (map string_bytes words.now) (H.files shelf.old) (L.is_true link.old) (L.is_true link.new)
+        (L.talk link.old) (L.talk link.new) result }
+    ensures later { (H.faults shelf.old ≤ H.faults shelf.new) × (K.faults out.old ≤ K.faults out.new) × (E.faults err.old ≤ E.faults err.new) }
+    ensures link_later { L.faults link.old ≤ L.faults link.new }
+    ensures apart { command_of (map string_bytes words.now) ≢ runs → L.faults link.new ≡ L.faults link.old }
+{
+    if is_command(words, "gen") {
         gen_files(alloc, words, shelf, err)
+    } else if is_command(words, "run") {
+        run_command(rt, alloc, words, shelf, out, err, link, gate)
     } else {
         eval_file(alloc, words, shelf, out, err)
     }

@@ -1,4 +1,4 @@
-use Rattle.std.proofs.Common.{◌≡◌, Bool, List, true, false, refl, sym, ◌∙◌, ap, subst, arith}
+use Rattle.std.proofs.Common.{Bool, List, true, false, refl, ◌∙◌, ap, subst, arith}
 use Rattle.definitions.specs.declared.Side.{Side}
 use Rattle.poplar_top.specs.EvalTexts.{value_lines, refused_lines, given_value, given_refusal}
 use Rattle.poplar_top.specs.Readers.{Went}

@@ -1,4 +1,4 @@
-use Rattle.std.proofs.Common.{◌≡◌, Bool, List, ◌∙◌, ap}
+use Rattle.std.proofs.Common.{Bool, List, ◌∙◌, ap}
 use Rattle.std.specs.Option.{option_map}
 use Rattle.pair_files.specs.Made.{zero_text, one_text}
 use Rattle.pair_files.specs.PairFiles.{with_both}

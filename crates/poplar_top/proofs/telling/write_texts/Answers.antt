@@ -1,20 +1,31 @@
-use Rattle.std.proofs.Common.{rules, ◌≡◌, ℕ, List, [], refl, sym, ap, subst, ◌∙◌, arith}
+use Rattle.std.proofs.Common.{◌≡◌, ◌⊎◌, inl, inr, ℕ, [], arith}
 use Rattle.shelf_io.specs.declared.refused.Refused.{Refused}
 use Rattle.shelf_io.specs.declared.refused.Refused.TheVariants.{Failed, Memory}
-use Rattle.shelf_io.specs.Texts.{GrewWithin}
 use Rattle.poplar_top.specs.Stops.{sink_status}
-use Rattle.poplar_top.proofs.TopSteps.{fault_first, fault_within}
+use Rattle.poplar_top.proofs.TopSteps.{fault_first, fault_within, out_first, err_whole}
 use Rattle.poplar_top.proofs.telling.write_texts.Goals as goal
+
+eight_or_ten : (refused : Refused) (status : ℕ) → status ≡ sink_status refused → (status ≡ 8) ⊎ (status ≡ 10)
+eight_or_ten Failed status e = inr e
+eight_or_ten Memory status e = inl e
 
 other : (refused : Refused) (status : ℕ) → status ≡ sink_status refused → status ≡ 0 → ⊥
 other Failed status e z = omega (arith, e, z)
 other Memory status e z = omega (arith, e, z)
 
 pub returns-in-Err-clause-err : goal.returns-in-Err-clause-err
-returns-in-Err-clause-err g c = fault_first [] c.args.written.now.err.items [] c.tell_sink.result _ _ (other _ _ c.tell_sink.ensures.status) c.tell_sink.ensures.line
+returns-in-Err-clause-err g c = fault_first [] c.args.lines.now c.tell_sink.result _ _ (other _ _ c.tell_sink.ensures.status) c.tell_sink.ensures.line
 
 pub returns-in-Err-write_all-clause-err : goal.returns-in-Err-write_all-clause-err
 returns-in-Err-write_all-clause-err g c =
-    let part : GrewWithin (g.E.Sink.taken c.args.err.now) (g.E.Sink.taken c.write_all-2.new.sink) c.args.written.now.err.items =
-    subst (GrewWithin (g.E.Sink.taken c.args.err.now) (g.E.Sink.taken c.write_all-2.new.sink)) c.deref-2.ensures.value c.in-Err-write_all.ensures.part in
-    fault_within [] c.args.written.now.err.items c.tell_sink-in-Err-write_all.result _ _ _ (other _ _ c.tell_sink-in-Err-write_all.ensures.status) part c.tell_sink-in-Err-write_all.ensures.line
+    fault_within [] c.args.lines.now c.tell_sink-in-Err-write_all.result _ _ _ (eight_or_ten _ _ c.tell_sink-in-Err-write_all.ensures.status)
+    c.in-Err-write_all.ensures.part c.tell_sink-in-Err-write_all.ensures.line
+
+pub returns-in-Err-write_all-clause-out : goal.returns-in-Err-write_all-clause-out
+returns-in-Err-write_all-clause-out g c =
+    out_first (g.K.Sink.taken c.args.out.now) (g.K.Sink.taken c.write_all.new.sink) c.args.text.now c.tell_sink-in-Err-write_all.result
+    (eight_or_ten _ _ c.tell_sink-in-Err-write_all.ensures.status) c.in_default.ensures.whole
+
+pub returns-clause-err : goal.returns-clause-err
+returns-clause-err g c =
+    err_whole [] c.args.lines.now (g.E.Sink.taken c.args.err.now) (g.E.Sink.taken c.write_all-2.new.sink) c.in_default-write_all.ensures.whole

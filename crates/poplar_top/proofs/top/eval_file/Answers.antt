@@ -1,7 +1,7 @@
-use Rattle.std.proofs.Common.{◌≡◌, ◌⊎◌, map, sym, subst}
+use Rattle.std.proofs.Common.{◌⊎◌, map, sym, subst}
 use Rattle.shelf_io.specs.Faults.{Rose}
 use Rattle.std.specs.String.{string_bytes}
-use Rattle.poplar_top.specs.Settings.{EvalSettings, eval_words}
+use Rattle.command_words.specs.Settings.{EvalSettings, eval_words}
 use Rattle.poplar_top.specs.Outcomes.{eval_settled, eval_told}
 use Rattle.poplar_top.specs.Stops.{stop_status}
 use Rattle.poplar_top.specs.Statuses.{ErrGets, MayStand}
@@ -27,6 +27,6 @@ returns-in-Err-clause-status g c =
     let settings : EvalSettings = record { side = asked.side; prefix = asked.prefix; file = asked.file.now } in
     let shelf_rose = Rose (g.H.Shelf.faults c.args.shelf.now) (g.H.Shelf.faults c.eval_texts.new.shelf) in
     let sink_rose = Rose (g.K.Sink.faults c.args.out.now) (g.K.Sink.faults c.args.out.now) ⊎ Rose (g.E.Sink.faults c.args.err.now) (g.E.Sink.faults c.tell_stop.new.err) in
-    let told = eval_status settings files c.in-Err.stop shelf_rose sink_rose c.in-Err.ensures.own c.in-Err.ensures.refused c.in-Err.ensures.fault in
-    let settled = subst (λ s. MayStand (eval_settled s files) shelf_rose sink_rose (stop_status c.in-Err.stop)) c.in-Some.ensures.value told in
-    subst (λ n. MayStand (eval_settled (eval_words (map string_bytes c.args.words.now)) files) shelf_rose sink_rose n) (sym c.tell_stop.ensures.status) settled
+    let told = eval_status settings files c.in-Err.stop shelf_rose ⊥ sink_rose c.in-Err.ensures.own c.in-Err.ensures.refused c.in-Err.ensures.fault in
+    let settled = subst (λ s. MayStand (eval_settled s files) shelf_rose ⊥ sink_rose (stop_status c.in-Err.stop)) c.in-Some.ensures.value told in
+    subst (λ n. MayStand (eval_settled (eval_words (map string_bytes c.args.words.now)) files) shelf_rose ⊥ sink_rose n) (sym c.tell_stop.ensures.status) settled

@@ -1,7 +1,7 @@
-use Rattle.std.proofs.Common.{◌≡◌, map, sym, subst}
+use Rattle.std.proofs.Common.{map, sym, subst}
 use Rattle.std.specs.String.{string_bytes}
-use Rattle.poplar_top.specs.Settings.{GenSettings, gen_words}
-use Rattle.poplar_top.specs.Outcomes.{gen_settled, gen_told}
+use Rattle.command_words.specs.Settings.{GenSettings, gen_words}
+use Rattle.poplar_top.specs.Outcomes.{gen_settled}
 use Rattle.poplar_top.specs.Stops.{stop_status}
 use Rattle.poplar_top.specs.Statuses.{ErrGets}
 use Rattle.poplar_top.proofs.TopSteps.{gen_stop}

@@ -1,7 +1,0 @@
-use Rattle.std.proofs.Common.{◌≡◌, true, take}
-use Rattle.std.specs.List.{list_all}
-use Rattle.poplar_top.specs.Values.{is_digit}
-use Rattle.poplar_top.proofs.values.are_digits.Given as goal
-
-abbrev pub invariant-loop-byte : goal.invariant-loop-byte
-invariant-loop-byte l = record { digits : list_all is_digit (take l.byte-index l.bytes) ≡ true }
