@@ -99,13 +99,11 @@ fn tells_first_byte<R: Threads + Wait + Sync>(
 #[test]
 fn a_first_byte_at_fault_is_told(rt: HostRuntime) -> Result<(), AllocError> {
     let mut shelf = filled(rt.alloc())?;
-    for (from, to) in [(0, 12), (90, 96)] {
-        for message in from..to {
-            assert!(rt;
-                tells_first_byte(&rt, rt.alloc(), &mut shelf, message)?,
-                "message {message}"
-            );
-        }
+    for message in 0..96 {
+        assert!(rt;
+            tells_first_byte(&rt, rt.alloc(), &mut shelf, message)?,
+            "message {message}"
+        );
     }
     Ok(())
 }
