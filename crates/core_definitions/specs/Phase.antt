@@ -6,9 +6,9 @@ use Rattle.definitions.specs.declared.Side.{Side}
 use Rattle.definitions.specs.Field.{add}
 use Rattle.definitions.specs.Prefixes.{xor}
 use Rattle.definitions.specs.Evaluation.{Share, Node, child, level_word, node}
-use Rattle.definitions.specs.Sketch.{Sums, sums_added}
+use Rattle.definitions.specs.Sketch.{Sums, sums_added, coin}
 use Rattle.walk_definitions.specs.Reports.{Report, held}
-use Rattle.walk_definitions.specs.Walk.{Settings, coin}
+use Rattle.walk_definitions.specs.Walk.{Settings}
 use Rattle.walk_definitions.specs.Heard.{paired}
 use Rattle.core_definitions.specs.Tiles.{TilePlan, no_sums, tiles, tile_sums, sums_of_tiles, plain_sums, tile_totals, totals_of_tiles, plain_totals}
 
