@@ -12,7 +12,7 @@ use Rattle.std.proofs.lemmas.Map.Lookups.{exact_bytes}
 use Rattle.std.proofs.lemmas.Bool.Decides.{nat_tests}
 use Rattle.walk_definitions.specs.Ascending.{bytes_before}
 use Rattle.walk_definitions.specs.Reports.{same_bytes}
-use Rattle.report_batch.proofs.Same.{bytes_decide}
+use Rattle.intake_state.proofs.Same.{bytes_decide}
 
 abbrev pub id_cmp : List ℕ → List ℕ → Ordering
 id_cmp = slice_cmp nat_cmp
