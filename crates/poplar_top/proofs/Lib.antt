@@ -4,6 +4,7 @@ pub mod ReaderSteps
 pub mod TextSteps
 pub mod GenSteps
 pub mod FileSteps
+pub mod MeetSteps
 pub mod CommandSteps
 pub mod RunSteps
 pub mod RunLaws

@@ -10,3 +10,4 @@ pub mod RunLinks
 pub mod Commands
 pub mod Makings
 pub mod Laws
+pub mod Keeps

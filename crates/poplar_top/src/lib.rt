@@ -10,8 +10,6 @@ mod refusal;
 mod run;
 mod stop;
 mod telling;
-#[cfg(test)]
-mod tests;
 mod top;
 mod walk_refusal;
 

@@ -2,7 +2,7 @@
 //! The values of the zero shares are those of an independent implementation.
 
 use super::{HEADER, evaluates, shelf_of, words_of};
-use crate::eval_file;
+use poplar_top::eval_file;
 use shelf_io::{Call, FirmSink, MemoryShelf, MemorySink};
 use std::alloc::{AllocError, Global};
 

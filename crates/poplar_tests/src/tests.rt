@@ -7,8 +7,8 @@ mod pairs;
 mod running;
 mod twisting;
 
-use crate::{eval_file, gen_files, poplar};
 use field64::Fe;
+use poplar_top::{eval_file, gen_files, poplar};
 use shelf_io::{Call, FirmSink, Link, MemoryShelf, OpenGate, Shelf};
 use std::alloc::{AllocError, Global};
 use std::sync::Wait;

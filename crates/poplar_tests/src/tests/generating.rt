@@ -2,7 +2,7 @@
 //! The values of the made files are those of an independent implementation.
 
 use super::{MASTER, evaluates, generates, shelf_of, words_of};
-use crate::poplar;
+use poplar_top::poplar;
 use shelf_io::{Call, FirmLink, FirmSink, MemoryShelf, OpenGate};
 use std::alloc::{AllocError, Global};
 

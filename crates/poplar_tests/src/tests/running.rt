@@ -2,7 +2,7 @@
 //! What it gives is stated by worked examples and by the rules of the format.
 
 use super::{Expected, MASTER, raise, runs, shelf_of, with_shares, words_of};
-use crate::poplar;
+use poplar_top::poplar;
 use prefix_bits::Side;
 use shelf_io::{Call, FirmLink, MemoryLink, MemoryShelf, MemorySink, OpenGate};
 use std::alloc::{AllocError, Global};
