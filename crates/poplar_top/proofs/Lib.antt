@@ -1,7 +1,5 @@
 pub mod TopSteps
 pub mod EvalSteps
-pub mod ReaderSteps
-pub mod TextSteps
 pub mod GenSteps
 pub mod FileSteps
 pub mod MeetSteps

@@ -16,11 +16,11 @@ use Rattle.poplar_top.specs.declared.walk_refusal.WalkRefusal.TheVariants.{Cap, 
 use Rattle.poplar_top.specs.declared.stop.Stop.{Stop}
 use Rattle.poplar_top.specs.declared.stop.Stop.TheVariants as stops
 use Rattle.command_words.specs.Settings.{EvalSettings}
-use Rattle.poplar_top.specs.Outcomes.{Outcome, eval_case, eval_file_outcome, eval_told}
+use Rattle.poplar_top.specs.Outcomes.{Outcome, eval_file_outcome, eval_told}
 use Rattle.poplar_top.specs.Outcomes.Outcome.{usage, refusal, texts, writes, untold_eval, untold_gen, untold_run, unheard}
 use Rattle.poplar_top.specs.Statuses.{Prints, TellsUntold, TellsMade, ErrGets, OutFirst, MayStand, asks_shelf, fault_line}
-use Rattle.share_format.specs.ShareFile.{FileCase, too_long, header_wrong, cut, whole, file_case, records}
-use Rattle.poplar_top.specs.EvalTexts.{value_lines, refused_lines}
+use Rattle.file_eval.specs.Answers.{eval_answer}
+use Rattle.poplar_top.proofs.EvalSteps.{answer_asks}
 use Rattle.poplar_top.specs.Refusals.{status_of}
 use Rattle.poplar_top.specs.Stops.{StopFits, IsEvalStop, stop_status, stop_line, sink_status}
 use Rattle.poplar_top.proofs.StatusLaws.{is_no_refusal, refusal_status}
@@ -209,21 +209,6 @@ fault_status o stops.Shelf S L K asks fits shelf link = inr (inl (refl, asks, sh
 fault_status o stops.Link S L K asks fits shelf link = inr (inr (inl (refl, link refl)))
 fault_status o stops.Memory S L K asks fits shelf link = inr (inr (inr (inr refl)))
 
-eval_asks : (settings : EvalSettings) (bytes : List ℕ) (c : FileCase) → IsTrue (asks_shelf (eval_case settings bytes c))
-eval_asks settings bytes (too_long n) = refl
-eval_asks settings bytes (header_wrong at) = refl
-eval_asks settings bytes (cut at) = refl
-eval_asks settings bytes (whole width) = at (nat_lt (8 * width) (length settings.prefix))
-  where
-    at : (b : Bool) → IsTrue (asks_shelf (if b then refusal (LongPrefix (length settings.prefix) width)
-        else texts (value_lines settings.side settings.prefix (records width bytes)) (refused_lines settings.side (records width bytes))))
-    at true = refl
-    at false = refl
-
-file_asks : (settings : EvalSettings) (found : Option (List ℕ)) → IsTrue (asks_shelf (eval_file_outcome settings found))
-file_asks settings None = refl
-file_asks settings (Some bytes) = eval_asks settings bytes (file_case settings.side bytes)
-
 untold_status : (stop : Stop) (S L K : Type 0) → IsEvalStop stop → (stop ≡ stops.Shelf → S) → MayStand untold_eval S L K (stop_status stop)
 untold_status (stops.Refusal r) S L K own rose = inl (inr own)
 untold_status stops.Shelf S L K own rose = inr (inl (refl, refl, rose refl))
@@ -236,7 +221,7 @@ pub eval_status : (settings : EvalSettings) (files : Option Files) (stop : Stop)
     → MayStand (eval_told settings files) S L K (stop_status stop)
 eval_status settings None stop S L K own fits rose = untold_status stop S L K own rose
 eval_status settings (Some held) stop S L K own fits rose =
-    fault_status (eval_file_outcome settings (get held settings.file)) stop S L K (file_asks settings (get held settings.file)) fits rose
+    fault_status (eval_file_outcome settings (get held settings.file)) stop S L K (answer_asks settings.side (eval_answer settings.side settings.prefix (get held settings.file))) fits rose
     (λ link. absurd (subst IsEvalStop link own))
 
 -- ---- out before err

@@ -1,6 +1,4 @@
 pub mod Refusals
-pub mod EvalTexts
-pub mod Readers
 pub mod Outcomes
 pub mod Statuses
 pub mod Stops

@@ -2,10 +2,8 @@
 //! Its contract says for every command which text is written and which status may stand.
 #![tactic(auto)]
 
-mod eval;
 mod generation;
 pub mod laws;
-mod lines;
 mod refusal;
 mod run;
 mod stop;

@@ -15,13 +15,6 @@ use crate::stop::Stop;
 use shelf_io::{Refused, Sink, write_all};
 use std::alloc::Global;
 
-/// The texts of out and of err.
-#[derive(Drop)]
-pub(crate) struct Texts {
-    pub(crate) out: Vec<u8>,
-    pub(crate) err: Vec<u8>,
-}
-
 /// Tells a line, and drops a refusal of that.
 pub(crate) fn tell<E: Sink>(err: &mut E, line: &[u8])
     ensures line { GrewWithin (E.taken err.old) (E.taken err.new) line.now }

@@ -7,11 +7,12 @@ ghost use Rattle.shelf_io.specs.Seen.{LinkSeen, SinkSeen, outside, outside_but_l
 ghost use Rattle.poplar_top.specs.Commands.{generates, runs, evaluates};
 ghost use Rattle.poplar_top.specs.Keeps.{KeepsOf, Keeps};
 
-use crate::eval::eval_texts;
 use crate::generation::make_files;
 use crate::run::stop_of_run;
+use crate::stop::stop_of_eval;
 use crate::telling::{tell, tell_stop, write_texts};
 use command_words::{is_command, read_eval, read_gen, read_run};
+use file_eval::eval_texts;
 use file_run::{RunRules, run_files};
 use shelf_io::{Gate, Link, Shelf, Sink};
 use std::alloc::Global;
@@ -43,9 +44,9 @@ pub fn eval_file<H: Shelf, K: Sink, E: Sink>(
         tell(err, USAGE);
         return 2;
     };
-    match eval_texts(alloc, &asked, shelf) {
+    match eval_texts(alloc, asked.side, &asked.prefix, asked.file, shelf) {
         Ok(written) => write_texts(out, err, &written.out, &written.err),
-        Err(stop) => tell_stop(alloc, err, stop),
+        Err(error) => tell_stop(alloc, err, stop_of_eval(error, asked.side)),
     }
 }
 

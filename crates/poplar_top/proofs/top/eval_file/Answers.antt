@@ -1,4 +1,4 @@
-use Rattle.std.proofs.Common.{map, refl, sym, subst}
+use Rattle.std.proofs.Common.{◌≡◌, map, refl, sym, subst}
 use Rattle.std.specs.String.{string_bytes}
 use Rattle.command_words.specs.Settings.{EvalSettings}
 use Rattle.poplar_top.specs.Commands.{evaluates}
@@ -6,6 +6,9 @@ use Rattle.poplar_top.specs.Keeps.{KeepsOf}
 use Rattle.poplar_top.specs.Outcomes.Outcome.{texts}
 use Rattle.shelf_io.specs.Seen.{outside_but_link}
 use Rattle.poplar_top.specs.Statuses.{Prints, ErrGets, OutFirst}
+use Rattle.shelf_io.specs.Texts.{GrewWithin}
+use Rattle.poplar_top.specs.Stops.{eval_stop, stop_status, stop_line}
+use Rattle.poplar_top.proofs.EvalSteps.{files_are, files_fit, error_own, error_shelf}
 use Rattle.poplar_top.proofs.CommandSteps.{eval_error_keeps, eval_texts_keep}
 use Rattle.poplar_top.proofs.top.eval_file.Goals as goal
 
@@ -16,8 +19,8 @@ returns-in-Ok g c = λ link.
     let before = outside_but_link g.H.Shelf g.K.Sink g.E.Sink c.args.shelf.now c.args.out.now c.args.err.now link in
     let after = outside_but_link g.H.Shelf g.K.Sink g.E.Sink c.eval_texts.new.shelf c.write_texts.new.out c.write_texts.new.err link in
     let written = c.in-Ok.written in let status = c.write_texts.result in
-    eval_texts_keep (map string_bytes c.args.words.now) settings c.in-Some.ensures.value before after refl c.in-Ok.ensures.kept c.in-Ok.ensures.later
-    c.write_texts.ensures.err_later written.out.items written.err.items status c.write_texts.ensures.out_later c.in-Ok.ensures.written c.write_texts.ensures.status
+    eval_texts_keep (map string_bytes c.args.words.now) settings c.in-Some.ensures.value before after refl c.in-Ok.ensures.kept c.in-Ok.ensures.cause.later
+    c.write_texts.ensures.err_later written.out.items written.err.items status c.write_texts.ensures.out_later (files_are settings before.shelf.files written c.in-Ok.ensures.exact) c.write_texts.ensures.status
     (subst (λ text. Prints before.out.taken after.out.taken text status) c.deref.ensures.value c.write_texts.ensures.out)
     (subst (λ text. ErrGets (texts text written.err.items) status before.err.taken after.err.taken) c.deref.ensures.value
     (subst (λ lines. ErrGets (texts c.deref.result.now lines) status before.err.taken after.err.taken) c.deref-in-Ok.ensures.value c.write_texts.ensures.err))
@@ -32,6 +35,11 @@ returns-in-Err g c = λ link.
     let words = map string_bytes c.args.words.now in
     let before = outside_but_link g.H.Shelf g.K.Sink g.E.Sink c.args.shelf.now c.args.out.now c.args.err.now link in
     let after = outside_but_link g.H.Shelf g.K.Sink g.E.Sink c.eval_texts.new.shelf c.args.out.now c.tell_stop.new.err link in
-    subst (λ n. KeepsOf evaluates words before after n) (sym c.tell_stop.ensures.status)
-    (eval_error_keeps words settings c.in-Some.ensures.value before after refl c.in-Err.ensures.kept c.in-Err.ensures.later c.tell_stop.ensures.later
-    c.in-Err.stop refl c.in-Err.ensures.refused c.in-Err.ensures.own c.in-Err.ensures.fault c.tell_stop.ensures.line)
+    let error = c.in-Err.error in
+    let is : c.tell_stop.result ≡ stop_status (eval_stop asked.side error) =
+    subst (λ stop. c.tell_stop.result ≡ stop_status stop) c.stop_of_eval.ensures.value c.tell_stop.ensures.status in
+    subst (λ n. KeepsOf evaluates words before after n) (sym is)
+    (eval_error_keeps words settings c.in-Some.ensures.value before after refl c.in-Err.ensures.kept c.in-Err.ensures.cause.later c.tell_stop.ensures.later
+    (eval_stop asked.side error) refl (files_fit settings before.shelf.files error c.in-Err.ensures.exact) (error_own asked.side error)
+    (λ shelf. c.in-Err.ensures.cause.rose (error_shelf asked.side error shelf))
+    (subst (λ stop. GrewWithin before.err.taken after.err.taken (stop_line stop)) c.stop_of_eval.ensures.value c.tell_stop.ensures.line))

@@ -1,10 +1,10 @@
 use Rattle.std.proofs.Common.{Bool, List, true, false, refl, ◌∙◌, ap, subst, arith}
 use Rattle.definitions.specs.declared.Side.{Side}
-use Rattle.poplar_top.specs.EvalTexts.{value_lines, refused_lines, given_value, given_refusal}
-use Rattle.poplar_top.specs.Readers.{Went}
-use Rattle.poplar_top.proofs.EvalSteps.{values-none, values-more, refusals-none, refusals-more}
-use Rattle.poplar_top.proofs.TextSteps.{Grows, text_begins, text_goes_on, text_ends}
-use Rattle.poplar_top.proofs.eval.all_texts.Goals as goal
+use Rattle.file_eval.specs.ValueLines.{value_lines, refused_lines, given_value, given_refusal}
+use Rattle.file_eval.specs.Readers.{Went}
+use Rattle.file_eval.proofs.EvalSteps.{values-none, values-more, refusals-none, refusals-more}
+use Rattle.file_eval.proofs.TextSteps.{Grows, text_begins, text_goes_on, text_ends}
+use Rattle.file_eval.proofs.reading.all_texts.Goals as goal
 
 values : (side : Side) (prefix : List Bool) → Grows (value_lines side prefix) (given_value side prefix)
 values side prefix = record { none = values-none side prefix; more = values-more side prefix; end = refl }
@@ -36,7 +36,7 @@ loop-written-preserved g c =
     record {
       fits = step.fits;
       kept = step.kept ∙ before.invariant.kept;
-      later = omega arith;
+      later = omega (arith, before.invariant.later, step.cause.later);
       name = ap (λ r. r.name) went.1 ∙ before.invariant.name;
       width = ap (λ r. r.width) went.1 ∙ before.invariant.width;
       out = text_goes_on (value_lines side prefix) (given_value side prefix) (values side prefix) told _ before.reader c.add_next.new.reader _ _

@@ -1,4 +1,4 @@
--- The texts of `eval`.
+-- The lines of values and of malformed records at a prefix.
 use Rattle.std.specs.Prelude.{ℕ, ◌≤◌, Bool, List, [], ◌++◌, codes, length}
 use Rattle.std.specs.List.{flat_map}
 use Rattle.std.specs.Fmt.{decimal}

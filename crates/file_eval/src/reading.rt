@@ -1,5 +1,5 @@
-//! `eval`: the value of each report of a share file at a prefix, as texts in memory.
-//! The records are read one after another; a text is written only where the whole answer is there.
+//! The value of each report of a share file at a prefix, as texts in memory.
+//! The records are read one after another; a text is given only where the whole answer is there.
 
 ghost use Rattle.std.specs.Prelude.{◌≡◌, ◌≤◌, ◌*◌, ◌++◌, ◌<◌, length, slice_get, IfOk, IfErr, IfSome, OnOk};
 ghost use Rattle.std.specs.FinMap.{get};
@@ -7,19 +7,15 @@ ghost use Rattle.shelf_io.specs.Faults.{Rose};
 ghost use Rattle.shelf_io.specs.Files.{IfThere};
 ghost use Rattle.share_format.specs.ShareFile.{records};
 ghost use Rattle.share_format.specs.Readings.{Fits};
-ghost use Rattle.poplar_top.specs.Outcomes.{eval_file_outcome};
-ghost use Rattle.poplar_top.specs.Outcomes.Outcome.{texts};
-ghost use Rattle.poplar_top.specs.EvalTexts.{value_lines, refused_lines, given_value, given_refusal, IsShort};
-ghost use Rattle.poplar_top.specs.Stops.{StopFits, IsNoRefusal, IsEvalStop};
-ghost use Rattle.poplar_top.specs.Readers.{is_more, Went};
 ghost use Rattle.share_format.specs.Answers.{record_answer};
+ghost use Rattle.file_eval.specs.Answers.{eval_answer, Gives, IsFault, HasEvalCause};
+ghost use Rattle.file_eval.specs.Readers.{is_more, Went};
+ghost use Rattle.file_eval.specs.ValueLines.{value_lines, refused_lines, given_value, given_refusal, IsShort};
 
+use crate::errors::EvalError;
 use crate::lines::value_text;
-use crate::refusal::Refusal;
-use crate::stop::{Stop, stop_of_file};
-use crate::telling::Texts;
+use crate::texts::EvalTexts;
 use answer_text::refused_line;
-use command_words::EvalAsked;
 use prefix_bits::{Prefix, Side};
 use share_format::{Record, RecordReader};
 use shelf_io::Shelf;
@@ -31,7 +27,7 @@ fn add_given(
     given: &Record,
     side: Side,
     prefix: &Prefix,
-    written: &mut Texts,
+    written: &mut EvalTexts,
 ) -> Result<(), AllocError>
     requires bits { IsShort prefix.now given.now }
     ensures out { OnOk result (written.new.out.items ≡ written.old.out.items ++ given_value side prefix.now given.now) }
@@ -58,8 +54,8 @@ fn add_next<H: Shelf>(
     reader: &mut RecordReader<'_>,
     side: Side,
     prefix: &Prefix,
-    written: &mut Texts,
-) -> Result<bool, Stop>
+    written: &mut EvalTexts,
+) -> Result<bool, EvalError>
     requires fits { Fits (H.files shelf.old) reader.old }
     requires bits { length prefix.now ≤ 8 * reader.old.width }
     ensures out { IfThere (H.files shelf.old) reader.old.name (λ bytes. IfOk result (λ more. written.new.out.items
@@ -67,19 +63,17 @@ fn add_next<H: Shelf>(
     ensures err { IfThere (H.files shelf.old) reader.old.name (λ bytes. IfOk result (λ more. written.new.err.items
         ≡ written.old.err.items ++ given_refusal side (record_answer reader.old.next (records reader.old.width bytes)))) }
     ensures more { IfOk result (λ more. Went more reader.old reader.new) }
-    ensures stop { IfThere (H.files shelf.old) reader.old.name (λ bytes. IfErr result IsNoRefusal) }
+    ensures stop { IfThere (H.files shelf.old) reader.old.name (λ bytes. IfErr result IsFault) }
     ensures fits { Fits (H.files shelf.new) reader.new }
-    ensures own { IfErr result IsEvalStop }
-    ensures fault { IfErr result (λ stop. stop ≡ Stop.Shelf → Rose (H.faults shelf.old) (H.faults shelf.new)) }
-    ensures later { H.faults shelf.old ≤ H.faults shelf.new }
+    ensures cause { HasEvalCause (H.faults shelf.old) (H.faults shelf.new) result }
     ensures kept { H.files shelf.new ≡ H.files shelf.old }
 {
     let given = match reader.next(shelf) {
         Ok(given) => given,
-        Err(error) => return Err(stop_of_file(error, side)),
+        Err(error) => return Err(EvalError::File(error)),
     };
     if let Err(_) = add_given(alloc, &given, side, prefix, written) {
-        return Err(Stop::Memory);
+        return Err(EvalError::Memory);
     }
     Ok(is_more(&given))
 }
@@ -102,7 +96,7 @@ fn all_texts<H: Shelf>(
     reader: &mut RecordReader<'_>,
     side: Side,
     prefix: &Prefix,
-) -> Result<Texts, Stop>
+) -> Result<EvalTexts, EvalError>
     requires fits { Fits (H.files shelf.old) reader.old }
     requires first { reader.old.next ≡ 0 }
     requires bits { length prefix.now ≤ 8 * reader.old.width }
@@ -110,13 +104,11 @@ fn all_texts<H: Shelf>(
         ≡ value_lines side prefix.now (records reader.old.width bytes))) }
     ensures err { IfThere (H.files shelf.old) reader.old.name (λ bytes. IfOk result (λ written. written.err.items
         ≡ refused_lines side (records reader.old.width bytes))) }
-    ensures stop { IfThere (H.files shelf.old) reader.old.name (λ bytes. IfErr result IsNoRefusal) }
-    ensures own { IfErr result IsEvalStop }
-    ensures fault { IfErr result (λ stop. stop ≡ Stop.Shelf → Rose (H.faults shelf.old) (H.faults shelf.new)) }
-    ensures later { H.faults shelf.old ≤ H.faults shelf.new }
+    ensures stop { IfThere (H.files shelf.old) reader.old.name (λ bytes. IfErr result IsFault) }
+    ensures cause { HasEvalCause (H.faults shelf.old) (H.faults shelf.new) result }
     ensures kept { H.files shelf.new ≡ H.files shelf.old }
 {
-    let mut written = Texts {
+    let mut written = EvalTexts {
         out: Vec::new(alloc),
         err: Vec::new(alloc),
     };
@@ -124,33 +116,33 @@ fn all_texts<H: Shelf>(
     Ok(written)
 }
 
-/// The texts of `eval`, or why there are none, with the causes in their order: the file, the length of the prefix, the records.
+/// The texts of the values of a side's share file at a prefix, or why there are none, with the causes in their order: the file, the
+/// length of the prefix, the records.
+///
+/// On a told shelf the texts, and each error but a failed shelf and want of memory, are those of what the file holds (`exact`). The shelf
+/// is named only where its count of faults rose (`cause`). The content of the shelf stays (`kept`).
 #[tactic(auto, using(crate::proofs::ReaderSteps::reader_steps))]
-pub(crate) fn eval_texts<H: Shelf>(
+pub fn eval_texts<H: Shelf>(
     alloc: Global,
-    asked: &EvalAsked<'_>,
+    side: Side,
+    prefix: &Prefix,
+    name: &str,
     shelf: &mut H,
-) -> Result<Texts, Stop>
-    ensures written { IfSome (H.files shelf.old) (λ held. IfOk result (λ written.
-        eval_file_outcome (record { side = asked.now.side; prefix = asked.now.prefix; file = asked.now.file.now }) (get held asked.now.file.now)
-        ≡ texts written.out.items written.err.items)) }
-    ensures refused { IfSome (H.files shelf.old) (λ held. IfErr result (λ stop.
-        StopFits (eval_file_outcome (record { side = asked.now.side; prefix = asked.now.prefix; file = asked.now.file.now }) (get held asked.now.file.now)) stop)) }
-    ensures own { IfErr result IsEvalStop }
-    ensures fault { IfErr result (λ stop. stop ≡ Stop.Shelf → Rose (H.faults shelf.old) (H.faults shelf.new)) }
-    ensures later { H.faults shelf.old ≤ H.faults shelf.new }
+) -> Result<EvalTexts, EvalError>
+    ensures exact { IfSome (H.files shelf.old) (λ held. Gives result (eval_answer side prefix.now (get held name.now))) }
+    ensures cause { HasEvalCause (H.faults shelf.old) (H.faults shelf.new) result }
     ensures kept { H.files shelf.new ≡ H.files shelf.old }
 {
-    let mut reader = match RecordReader::open(alloc, shelf, asked.file, asked.side) {
+    let mut reader = match RecordReader::open(alloc, shelf, name, side) {
         Ok(reader) => reader,
-        Err(error) => return Err(stop_of_file(error, asked.side)),
+        Err(error) => return Err(EvalError::File(error)),
     };
     let width = reader.width();
-    if asked.prefix.len() > 8 * u16::from(width) {
-        return Err(Stop::Refusal(Refusal::LongPrefix {
-            bits: asked.prefix.len(),
+    if prefix.len() > 8 * u16::from(width) {
+        return Err(EvalError::LongPrefix {
+            bits: prefix.len(),
             width,
-        }));
+        });
     }
-    all_texts(alloc, shelf, &mut reader, asked.side, &asked.prefix)
+    all_texts(alloc, shelf, &mut reader, side, prefix)
 }

@@ -1,9 +1,9 @@
 //! The lines of `eval`: an id and the value of its share at a prefix.
-//! Their spelling stands in specs/EvalTexts.antt.
+//! Their spelling stands in specs/ValueLines.antt.
 
 ghost use Rattle.std.specs.Prelude.{◌≡◌, ◌≤◌, IfOk, length};
 ghost use Rattle.std.specs.String.{string_bytes};
-ghost use Rattle.poplar_top.specs.EvalTexts.{node_line, value_line};
+ghost use Rattle.file_eval.specs.ValueLines.{node_line, value_line};
 
 use idpf_eval::{Node, Share, eval_uncounted};
 use prefix_bits::{Prefix, ReportId, Side};

@@ -2,8 +2,8 @@ use Rattle.std.proofs.Common.{◌≡◌, ◌≤◌, ◌-◌, take}
 use Rattle.shelf_io.specs.Files.{IfThere}
 use Rattle.share_format.specs.ShareFile.{records}
 use Rattle.share_format.specs.Readings.{Fits}
-use Rattle.poplar_top.specs.EvalTexts.{value_lines, refused_lines}
-use Rattle.poplar_top.proofs.eval.all_texts.Given as goal
+use Rattle.file_eval.specs.ValueLines.{value_lines, refused_lines}
+use Rattle.file_eval.proofs.reading.all_texts.Given as goal
 
 abbrev pub invariant-loop-written : goal.invariant-loop-written
 invariant-loop-written g l = record {
