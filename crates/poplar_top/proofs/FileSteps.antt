@@ -4,7 +4,6 @@ use Rattle.std.specs.Prelude.{IfSome, IsTrue, if◌then◌else◌}
 use Rattle.std.specs.Option.{option_map}
 use Rattle.std.specs.FinMap.{get}
 use Rattle.shelf_io.specs.Files.{Files}
-use Rattle.shelf_io.proofs.TextLaws.{within_none}
 use Rattle.pair_files.specs.PairFiles.{with_both, HoldFronts}
 use Rattle.text_strings.specs.Lines.{LinesCase, too_many, line_long, zero_byte, strings, lines_case}
 use Rattle.poplar_top.specs.declared.refusal.Refusal.TheVariants.{StringsLong}
@@ -13,7 +12,7 @@ use Rattle.poplar_top.specs.declared.stop.Stop.TheVariants as stops
 use Rattle.command_words.specs.Settings.{GenSettings}
 use Rattle.poplar_top.specs.Outcomes.{Outcome, gen_case, gen_file_outcome, gen_told}
 use Rattle.poplar_top.specs.Outcomes.Outcome.{usage, refusal, texts, writes, untold_eval, untold_gen, untold_run, unheard}
-use Rattle.poplar_top.specs.Statuses.{MayStand, ErrGets, ShelfGets, asks_shelf, fault_line}
+use Rattle.poplar_top.specs.Statuses.{MayStand, ShelfGets, asks_shelf}
 use Rattle.poplar_top.specs.Stops.{StopFits, IsGenStop, stop_status}
 use Rattle.poplar_top.proofs.TopSteps.{fault_status}
 
@@ -63,14 +62,6 @@ shelf_kept unheard status before now other e = e
 module _ (settings : GenSettings) (zero_text one_text : List ℕ) where
   abbrev Written : Option Files → Type 0
   Written files = IfSome files (λ held. gen_file_outcome settings (get held settings.strings) ≡ writes settings.zero zero_text settings.one one_text)
-
-  pub written_status : (files : Option Files) (S L K : Type 0) → Written files → MayStand (gen_told settings files) S L K 0
-  written_status None S L K h = inl (inl refl)
-  written_status (Some held) S L K h = subst (λ o. MayStand o S L K 0) (sym h) (inl refl)
-
-  pub written_line : (files : Option Files) (before : Option (List ℕ)) → Written files → ErrGets (gen_told settings files) 0 before before
-  written_line None before h = tt
-  written_line (Some held) before h = subst (λ o. ErrGets o 0 before before) (sym h) ((λ _. refl), within_none before before (fault_line 0) refl)
 
   pub written_shelf : (files now : Option Files) → Written files
       → now ≡ option_map (with_both settings.zero zero_text settings.one one_text) files → ShelfGets (gen_told settings files) 0 files now

@@ -1,9 +1,8 @@
 pub mod TopSteps
 pub mod EvalSteps
-pub mod ReaderSteps
-pub mod TextSteps
 pub mod GenSteps
 pub mod FileSteps
+pub mod MeetSteps
 pub mod CommandSteps
 pub mod RunSteps
 pub mod RunLaws

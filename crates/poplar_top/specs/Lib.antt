@@ -1,6 +1,4 @@
 pub mod Refusals
-pub mod EvalTexts
-pub mod Readers
 pub mod Outcomes
 pub mod Statuses
 pub mod Stops
@@ -10,3 +8,4 @@ pub mod RunLinks
 pub mod Commands
 pub mod Makings
 pub mod Laws
+pub mod Keeps

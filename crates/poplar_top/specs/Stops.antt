@@ -8,6 +8,8 @@ use Rattle.definitions.specs.declared.Side.{Side}
 use Rattle.share_format.specs.declared.file_error.FileError.{FileError}
 use Rattle.share_format.specs.declared.file_error.FileError.TheVariants as errors
 use Rattle.poplar_top.specs.declared.refusal.Refusal.TheVariants.{Missing, TooLong, Header, Cut, LongPrefix, NoStrings, StringsLong, TooMany, LineLong, ZeroByte, Widths, Walk}
+use Rattle.file_eval.specs.declared.errors.EvalError.{EvalError}
+use Rattle.file_eval.specs.declared.errors.EvalError.TheVariants as evals
 use Rattle.text_strings.specs.Lines.{LinesCase, too_many, line_long, zero_byte}
 use Rattle.text_strings.specs.declared.lines_error.LinesError.{LinesError}
 use Rattle.text_strings.specs.declared.lines_error.LinesError.TheVariants as lines
@@ -49,12 +51,11 @@ file_stop side (errors.Cut at) = stops.Refusal (Cut side at)
 file_stop side errors.Shelf = stops.Shelf
 file_stop side errors.Memory = stops.Memory
 
--- a reason that is no refusal
-abbrev pub IsNoRefusal : Stop → Type 0
-IsNoRefusal (stops.Refusal r) = ⊥
-IsNoRefusal stops.Shelf = Unit {0}
-IsNoRefusal stops.Link = Unit {0}
-IsNoRefusal stops.Memory = Unit {0}
+-- why a file has no values at a prefix
+abbrev pub eval_stop : Side → EvalError → Stop
+eval_stop side (evals.File e) = file_stop side e
+eval_stop side (evals.LongPrefix bits width) = stops.Refusal (LongPrefix bits width)
+eval_stop side evals.Memory = stops.Memory
 
 -- why a strings file that holds no strings gives none
 abbrev pub lines_stop : LinesError → Stop

@@ -2,9 +2,10 @@
 //! A refusal is that of the words, files and messages; the others are faults met on the way.
 
 ghost use Rattle.std.specs.Prelude.{◌≡◌, ◌⊎◌};
-ghost use Rattle.poplar_top.specs.Stops.{file_stop};
+ghost use Rattle.poplar_top.specs.Stops.{file_stop, eval_stop};
 
 use crate::refusal::Refusal;
+use file_eval::EvalError;
 use prefix_bits::Side;
 use share_format::FileError;
 use shelf_io::Refused;
@@ -44,5 +45,18 @@ pub(crate) fn stop_of_file(error: FileError, side: Side) -> Stop
         FileError::Cut { at } => Stop::Refusal(Refusal::Cut { side, at }),
         FileError::Shelf => Stop::Shelf,
         FileError::Memory => Stop::Memory,
+    }
+}
+
+/// Why a side's file has no values at a prefix.
+pub(crate) fn stop_of_eval(error: EvalError, side: Side) -> Stop
+    ensures value { result ≡ eval_stop side error }
+{
+    match error {
+        EvalError::File(error) => stop_of_file(error, side),
+        EvalError::LongPrefix { bits, width } => {
+            Stop::Refusal(Refusal::LongPrefix { bits, width })
+        }
+        EvalError::Memory => Stop::Memory,
     }
 }

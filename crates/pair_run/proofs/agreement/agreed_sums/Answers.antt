@@ -6,7 +6,8 @@ use Rattle.pair_run.specs.AddedKinds.{added_number}
 use Rattle.pair_run.specs.declared.answers.PairError.TheVariants.{Memory}
 use Rattle.pair_run.specs.Failures.{end_of, Stops, IsView}
 use Rattle.pair_run.specs.Parts.{GoesOn, exchange}
-use Rattle.pair_run.specs.Talking.{Passed, IsReady, SentPart}
+use Rattle.shelf_io.specs.Seen.{IsReady}
+use Rattle.pair_run.specs.Talking.{Passed, SentPart}
 use Rattle.pair_run.proofs.Followed.{err_same, stops_as, passed_map, part_whole, if_ok, if_err, if_err_too}
 use Rattle.pair_run.proofs.Views.{added_goes, added_stops, added_ends, length_paired, paired_swap}
 use Rattle.pair_run.proofs.agreement.agreed_sums.Goals as goal
