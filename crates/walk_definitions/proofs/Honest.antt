@@ -126,7 +126,8 @@ has-front q (s ∷ ss) h = at (is_prefix q s) refl (has-front q ss)
 
 -- ---- the walk
 
-as_many : (bits : ℕ) (reports : List Report) (strings : List (List Bool)) → AreGenerated bits reports strings → length reports ≡ length strings
+-- as many reports as strings
+pub as_many : (bits : ℕ) (reports : List Report) (strings : List (List Bool)) → AreGenerated bits reports strings → length reports ≡ length strings
 as_many bits [] [] g = refl
 as_many bits [] (s ∷ ss) g = absurd g
 as_many bits (r ∷ rs) [] g = absurd g
