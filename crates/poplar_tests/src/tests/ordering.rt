@@ -33,7 +33,16 @@ const CAPPED: Expected<'static> = (5, "", "frontier cap: level 8 wants 6\n");
 
 // The files that the cases name.
 const NAMES: [&str; 10] = [
-    "f0", "f1", "head0", "head1", "wide_head1", "cut1", "wide0", "wide1", "strings", "cut0",
+    "f0",
+    "f1",
+    "head0",
+    "head1",
+    "wide_head1",
+    "cut1",
+    "wide0",
+    "wide1",
+    "strings",
+    "cut0",
 ];
 
 // The words of `eval`: the words before the file, the file and its first record, the prefix and the records.
@@ -122,30 +131,14 @@ const OF_RUN: [Case; 11] = [
         (4, "", "widths differ: 1 and 2\n"),
     ),
     (
-        &[
-            "run",
-            "--threshold",
-            "1",
-            "--cap",
-            "4",
-            "wide0",
-            "wide1",
-        ],
+        &["run", "--threshold", "1", "--cap", "4", "wide0", "wide1"],
         FIRM,
         (Call::Send, 48),
         1,
         LINK,
     ),
     (
-        &[
-            "run",
-            "--threshold",
-            "1",
-            "--cap",
-            "4",
-            "wide0",
-            "wide1",
-        ],
+        &["run", "--threshold", "1", "--cap", "4", "wide0", "wide1"],
         FIRM,
         (Call::Send, 49),
         1,
