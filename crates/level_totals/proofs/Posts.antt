@@ -1,10 +1,9 @@
 -- One post at the first lock of a row.
-use Rattle.std.proofs.Common.{◌≡◌, ℕ, List, [], ◌∷◌, ◌++◌, length, map, drop, refl, ap, sym, ◌∙◌, subst, arith}
+use Rattle.std.proofs.Common.{◌≡◌, ℕ, List, [], ◌∷◌, ◌++◌, length, drop, refl, ap, sym, ◌∙◌, subst, arith}
 use Rattle.std.proofs.lemmas.List.{append-nil}
-use Rattle.std.specs.List.{AllByRecursion}
 use mathlib.Core.List.{IsPrefix}
 use Rattle.turn_lock.specs.Logs.{GrewBy}
-use Rattle.turn_lock.specs.Seen.{LockId, PassSeen, turn_of, pass_after}
+use Rattle.turn_lock.specs.Seen.{LockId, turn_of, pass_after}
 use Rattle.lock_row.specs.Rows.{RowTurnSeen, locks_of, turn_locks, plans_of, Takes}
 use Rattle.core_definitions.specs.Phase.{Posting}
 use Rattle.phase_state.specs.declared.phase_plan.PlanSeen.{PlanSeen}

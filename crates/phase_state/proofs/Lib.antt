@@ -2,6 +2,6 @@ pub mod Lists
 mod Steps
 mod Cutting
 mod Growing
-mod Marks
+pub mod Marks
 mod Posts
 mod Filled

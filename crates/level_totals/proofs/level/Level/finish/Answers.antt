@@ -6,7 +6,6 @@ use Rattle.turn_lock.specs.Seen.{LockId}
 use Rattle.lock_row.specs.Rows.{locks_of}
 use Rattle.core_definitions.specs.Phase.{Posting}
 use Rattle.phase_state.specs.declared.phase_plan.PlanSeen.{PlanSeen}
-use Rattle.phase_state.specs.Phases.{StateSeen}
 use Rattle.level_totals.specs.Levels.{LevelSeen, LevelPassSeen, seen_of, own_of, number_of}
 use Rattle.level_totals.proofs.Closing.{Are, each_head, heads_count, numbered}
 use Rattle.level_totals.proofs.level.Level.finish.Goals as goal
