@@ -1,12 +1,11 @@
 -- The words of `eval` are the command, a side, a prefix and a name.
 use Rattle.std.proofs.Common.{◌≡◌, ℕ, Bool, true, List, [], ◌∷◌, Option, Some, None, refl, sym, ◌∙◌, ap, codes}
-use Rattle.std.specs.Prelude.{if◌then◌else◌}
 use Rattle.std.specs.Str.{bytes_eq}
 use Rattle.definitions.specs.declared.Side.{Side}
 use Rattle.command_words.specs.Values.{side_of, prefix_of, is_name}
-use Rattle.command_words.specs.Settings.{EvalSettings, eval_made, eval_settings, eval_words}
+use Rattle.command_words.specs.Settings.{EvalSettings, eval_made, eval_words}
 use Rattle.words_laws.specs.EvalWords.{AsksEval, EvalLaw}
-use Rattle.words_laws.proofs.Tests.{where_true, so_true, same_word, name_is, name_so}
+use Rattle.words_laws.proofs.Tests.{some_same, where_true, so_true, same_word, name_is, name_so}
 
 -- the values that make these settings
 record Made (side : Option Side) (prefix : Option (List Bool)) (file : List ℕ) (settings : EvalSettings) : Type 0 where
@@ -22,9 +21,6 @@ made (Some side) (Some prefix) file s e =
     let w = where_true (is_name file) (Some (record { side = side; prefix = prefix; file = file })) s e in
     let same : record { side = side; prefix = prefix; file = file } ≡ s = some_same w.1 in
     record { side_is = ap (λ x. Some x.side) same; prefix_is = ap (λ x. Some x.prefix) same; file_is = ap (λ x. x.file) same; name = w.0 }
-  where
-    some_same : {a b : EvalSettings} → Some a ≡ Some b → a ≡ b
-    some_same e = cc
 
 asks : (words : List (List ℕ)) (s : EvalSettings) → eval_words words ≡ Some s → AsksEval words s
 asks [] s e = absurd cc

@@ -60,6 +60,9 @@ not_so_many n m other = at (nat_eq n m) refl
     at true e = absurd (other ((Decides-eqb n m).0 e))
     at false e = refl
 
+pub some_same : {A : Type 0} {a b : A} → Some a ≡ Some b → a ≡ b
+some_same e = cc
+
 pub no_value : {A : Type 0} (o : Option A) (v : A) → o ≡ None → o ≡ Some v → ⊥
 no_value None v e f = absurd cc
 no_value (Some w) v e f = absurd cc
