@@ -17,7 +17,7 @@ use text_strings::read_lines;
 /// The most bytes of a strings file.
 const MOST_BYTES: u64 = 1 << 28;
 
-// The strings of the bytes of a strings file.
+/// The strings of the bytes of a strings file.
 #[tactic(auto, using(crate::proofs::StringSteps::line_steps))]
 fn strings_in(alloc: Global, bytes: &[u8], width: u8) -> Result<Vec<Prefix>, GenError>
     requires width { (1 ≤ width) × (width ≤ 32) }
@@ -33,7 +33,7 @@ fn strings_in(alloc: Global, bytes: &[u8], width: u8) -> Result<Vec<Prefix>, Gen
     }
 }
 
-// All bytes of the strings file, or why they are not read.
+/// All bytes of the strings file, or why they are not read.
 #[tactic(auto, using(crate::proofs::StringSteps::byte_steps))]
 fn whole_file<H: Shelf>(alloc: Global, shelf: &mut H, name: &str) -> Result<Vec<u8>, GenError>
     ensures bytes { IfSome (H.files shelf.old) (λ held. IfOk result (λ bytes. get held name.now ≡ Some bytes.items)) }
