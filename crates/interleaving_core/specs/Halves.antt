@@ -1,0 +1,37 @@
+-- One side of a phase, as the program keeps it.
+use Rattle.std.specs.Prelude.{◌≡◌, ℕ, if◌then◌else◌, List, [], ◌∷◌, ◌++◌, map, nat_eq}
+use Rattle.definitions.specs.declared.Side.{Side}
+use Rattle.core_definitions.specs.declared.hand.Hand.{Hand}
+use Rattle.core_definitions.specs.Phase as phase
+use Rattle.core_definitions.specs.Phase.{CoreSettings, Phase, CacheEntry, Posting, values_of_tiles, plain_node, posted_count, HalfKept}
+use Rattle.phase_state.specs.declared.phase_plan.PlanSeen.{PlanSeen}
+use Rattle.interleaving_core.specs.declared.halves.Half.{Half}
+use Rattle.interleaving_core.specs.Stages.{IsPlanOf}
+
+-- the definitions' side: what is added up is read off the log
+abbrev pub half_seen : CoreSettings → Phase → Side → Half → phase.Half
+half_seen core p side h = record {
+  counter = h.counter;
+  hands = h.hands.items;
+  log = h.state.log;
+  cache = h.cache.items;
+  values = values_of_tiles core p p.kind (plain_node p.batch side) (map (λ e. e.tile) h.state.log);
+}
+
+-- a side in a phase that these settings lead to
+pub record IsHalf (core : CoreSettings) (p : Phase) (side : Side) (h : Half) : Type 0 where
+  pub plan : IsPlanOf core p side h.plan
+  pub same : h.state.plan ≡ h.plan
+  pub kept : HalfKept core p side (half_seen core p side h)
+
+-- the log after a post: a tile that is there already changes nothing
+abbrev pub log_after : ℕ → ℕ → List Posting → List Posting
+log_after number tile log = if nat_eq (posted_count tile log) 0 then log ++ record { number = number; tile = tile } ∷ [] else log
+
+-- all but the log
+pub record IsOnly (plan : PlanSeen) (counter : ℕ) (hands : List Hand) (cache : List CacheEntry) (h : Half) : Type 0 where
+  pub plan_is : h.plan ≡ plan
+  pub same : h.state.plan ≡ plan
+  pub counter_is : h.counter ≡ counter
+  pub hands_are : h.hands.items ≡ hands
+  pub cache_is : h.cache.items ≡ cache

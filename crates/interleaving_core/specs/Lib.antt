@@ -1,0 +1,10 @@
+pub mod Settings
+pub mod Events
+pub mod Crews
+pub mod Caches
+pub mod Halves
+pub mod Stages
+pub mod Walks
+pub mod Systems
+pub mod Collections
+pub mod Turns
