@@ -1,9 +1,11 @@
 -- One side of a phase, as the program keeps it.
-use Rattle.std.specs.Prelude.{◌≡◌, ℕ, if◌then◌else◌, List, [], ◌∷◌, ◌++◌, map, nat_eq}
+use Rattle.std.specs.Prelude.{◌≡◌, ℕ, if◌then◌else◌, List, [], ◌∷◌, ◌++◌, Option, Some, None, map, nat_eq, slice_set}
+use Rattle.std.specs.List.{list_all}
 use Rattle.definitions.specs.declared.Side.{Side}
 use Rattle.core_definitions.specs.declared.hand.Hand.{Hand}
+use Rattle.core_definitions.specs.declared.hand.Hand.TheVariants.{Free, Holding, Finished}
 use Rattle.core_definitions.specs.Phase as phase
-use Rattle.core_definitions.specs.Phase.{CoreSettings, Phase, CacheEntry, Posting, values_of_tiles, plain_node, posted_count, HalfKept}
+use Rattle.core_definitions.specs.Phase.{CoreSettings, Phase, CacheEntry, Posting, values_of_tiles, plain_node, posted_count, unposted, hand_at, is_finished, HalfKept}
 use Rattle.phase_state.specs.declared.phase_plan.PlanSeen.{PlanSeen}
 use Rattle.interleaving_core.specs.declared.halves.Half.{Half}
 use Rattle.interleaving_core.specs.Stages.{IsPlanOf}
@@ -27,6 +29,31 @@ pub record IsHalf (core : CoreSettings) (p : Phase) (side : Side) (h : Half) : T
 -- the log after a post: a tile that is there already changes nothing
 abbrev pub log_after : ℕ → ℕ → List Posting → List Posting
 log_after number tile log = if nat_eq (posted_count tile log) 0 then log ++ record { number = number; tile = tile } ∷ [] else log
+
+-- the hands and the log after a worker posts what it holds
+abbrev pub hands_freed : ℕ → Hand → List Hand → List Hand
+hands_freed w Free hands = hands
+hands_freed w (Holding k) hands = slice_set hands w Free
+hands_freed w Finished hands = hands
+
+abbrev pub hands_posted : ℕ → List Hand → List Hand
+hands_posted w hands = hands_freed w (hand_at hands w) hands
+
+abbrev pub log_held : ℕ → Hand → List Posting → List Posting
+log_held w Free log = log
+log_held w (Holding k) log = log_after w k log
+log_held w Finished log = log
+
+abbrev pub log_posted : ℕ → List Hand → List Posting → List Posting
+log_posted w hands log = log_held w (hand_at hands w) log
+
+-- the log after a sweep of so many tiles
+abbrev pub log_found : ℕ → Option ℕ → List Posting → List Posting
+log_found number None log = log
+log_found number (Some k) log = log_after number k log
+
+abbrev pub log_swept : ℕ → ℕ → List Hand → List Posting → List Posting
+log_swept number tiles hands log = if list_all is_finished hands then log_found number (unposted log 0 tiles) log else log
 
 -- all but the log
 pub record IsOnly (plan : PlanSeen) (counter : ℕ) (hands : List Hand) (cache : List CacheEntry) (h : Half) : Type 0 where

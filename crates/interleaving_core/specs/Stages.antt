@@ -44,6 +44,7 @@ pub record IsPlanOf (core : CoreSettings) (p : Phase) (side : Side) (plan : Plan
   pub level_is : plan.level ≡ p.level
   pub verify_is : plan.verify ≡ core.walk.verify
   pub shares_are : plan.shares ≡ map (λ r. held r side) p.batch
+  pub named : map (λ s. s.id) plan.shares ≡ map (λ r. r.id) p.batch
   pub live_are : plan.live ≡ p.live
   pub candidates_are : plan.candidates ≡ p.candidates
   pub tiles_are : cut plan.tiles ≡ phase.plan_of core p

@@ -1,7 +1,7 @@
 //! The hands of one side's workers.
 //! Each call changes one hand, as the definitions' event of its name does.
 
-ghost use Rattle.std.specs.Prelude.{◌≡◌, ◌<◌, ◌^◌, IfOk, length};
+ghost use Rattle.std.specs.Prelude.{◌≡◌, ◌<◌, ◌^◌, IfOk};
 ghost use Rattle.std.specs.List.{list_all};
 ghost use Rattle.core_definitions.specs.Phase.{hand_at, drawn, claimed, abandoned, is_finished};
 ghost use Rattle.core_definitions.specs.System.{hands_of};
@@ -40,11 +40,10 @@ fn drawn(number: u32, tiles: u32) -> Hand
 }
 
 /// A worker draws the next number, `counter`, where its hand is free. The answer is the next number afterwards.
-pub fn claim(hands: &mut [Hand], counter: u32, tiles: u32, worker: u32) -> u32
+pub fn claim(hands: &mut Vec<Hand>, counter: u32, tiles: u32, worker: u32) -> u32
     requires room { counter < 2 ^ 31 }
-    ensures count { length hands.new ≡ length hands.old }
-    ensures hands { hands.new ≡ (claimed tiles worker (hand_at hands.old worker) (crew counter hands.old)).hands }
-    ensures counter { result ≡ (claimed tiles worker (hand_at hands.old worker) (crew counter hands.old)).counter }
+    ensures hands { hands.new.items ≡ (claimed tiles worker (hand_at hands.old.items worker) (crew counter hands.old.items)).hands }
+    ensures counter { result ≡ (claimed tiles worker (hand_at hands.old.items worker) (crew counter hands.old.items)).counter }
 {
     match hand_of(hands, worker) {
         Hand::Free => {
@@ -56,9 +55,8 @@ pub fn claim(hands: &mut [Hand], counter: u32, tiles: u32, worker: u32) -> u32
 }
 
 /// A worker gives up the tile that it holds, if any.
-pub fn abandon(hands: &mut [Hand], worker: u32)
-    ensures count { length hands.new ≡ length hands.old }
-    ensures hands { hands.new ≡ (abandoned worker (hand_at hands.old worker) (crew 0 hands.old)).hands }
+pub fn abandon(hands: &mut Vec<Hand>, worker: u32)
+    ensures { hands.new.items ≡ (abandoned worker (hand_at hands.old.items worker) (crew 0 hands.old.items)).hands }
 {
     if let Hand::Holding(_) = hand_of(hands, worker) {
         hands[worker as usize] = Hand::Free;

@@ -1,19 +1,20 @@
 //! One side of a phase: its workers, its cache, and what is posted.
 //! Each step is the definitions' event of that side.
 
-ghost use Rattle.std.specs.Prelude.{◌≡◌, ◌+◌, ◌<◌, ◌≤◌, ◌^◌, length, IfOk, OnOk};
+ghost use Rattle.std.specs.Prelude.{◌≡◌, ℕ, ◌+◌, ◌<◌, ◌≤◌, ◌^◌, length, IfOk, OnOk};
 ghost use Rattle.std.specs.List.{All};
 ghost use Rattle.prefix_bits.specs.declared.TheConstants.{MOST_BITS};
 ghost use Rattle.definitions.specs.declared.Side.{Side};
 ghost use Rattle.tile_claims.specs.Plans.{tiles_of};
-ghost use Rattle.core_definitions.specs.Phase.{AreTrue, half_after, unposted};
+ghost use Rattle.core_definitions.specs.declared.hand.Hand.TheVariants.{Holding};
+ghost use Rattle.core_definitions.specs.Phase.{AreTrue, half_after, hand_at, unposted, posted_count};
 ghost use Rattle.core_definitions.specs.System.{fresh_half};
 ghost use Rattle.phase_state.specs.Sums.{IsPhasePlan};
 ghost use Rattle.interleaving_core.specs.Settings.{AreUsable};
 ghost use Rattle.interleaving_core.specs.Events.{step_of};
 ghost use Rattle.interleaving_core.specs.Stages.{IsStage, phase_at};
 ghost use Rattle.interleaving_core.specs.Caches.{IsTrueCache, may_fill, filled};
-ghost use Rattle.interleaving_core.specs.Halves.{IsHalf, half_seen, log_after, IsOnly};
+ghost use Rattle.interleaving_core.specs.Halves.{IsHalf, half_seen, log_after, hands_posted, log_posted, log_swept, IsOnly};
 
 use crate::cached::{CacheEntry, evict, find};
 use crate::crews::{abandon, all_finished, claim, free_hands, hand_of};
@@ -98,9 +99,17 @@ fn post_tile(
     Ok(())
 }
 
+// The number of tiles of a plan.
+fn tile_count(plan: &PhasePlan<'_>) -> u32
+    ensures { result ≡ tiles_of plan.now.tiles }
+{
+    plan.tiles.tiles()
+}
+
 // The lowest tile that is not posted.
 fn lowest_unposted(state: &PhaseState<'_>, tiles: u32) -> Option<u32>
     requires tiles { tiles ≡ tiles_of state.now.plan.tiles }
+    requires once { (k : ℕ) → posted_count k state.now.log ≤ 1 }
     ensures { result ≡ unposted state.now.log 0 tiles }
 {
     for tile in 0..tiles {
@@ -127,7 +136,10 @@ fn may_fill(
     if prefix.len() == 0 || prefix.len() > bits {
         return false;
     }
-    find(cache, report, prefix).is_none()
+    match find(cache, report, prefix) {
+        Some(_) => false,
+        None => true,
+    }
 }
 
 // Evaluates a report into the cache at a prefix, where it may be.
@@ -156,6 +168,43 @@ fn fill(
     Ok(())
 }
 
+// A worker posts the tile that it holds, if any.
+fn post(alloc: Global, half: &mut Half<'_>, worker: u32) -> Result<(), AllocError>
+    requires same { half.old.state.plan ≡ half.old.plan }
+    requires fits { IsPhasePlan half.old.plan }
+    requires some { 1 ≤ half.old.plan.level }
+    requires cached { IsTrueCache half.old.plan.shares half.old.plan.side half.old.cache.items }
+    requires held { (k : ℕ) → hand_at half.old.hands.items worker ≡ Holding k → k < tiles_of half.old.plan.tiles }
+    ensures only { OnOk result (IsOnly half.old.plan half.old.counter (hands_posted worker half.old.hands.items) half.old.cache.items half.new) }
+    ensures log { OnOk result (half.new.state.log ≡ log_posted worker half.old.hands.items half.old.state.log) }
+{
+    if let Hand::Holding(tile) = hand_of(&half.hands, worker) {
+        half.hands[worker as usize] = Hand::Free;
+        post_tile(alloc, half, worker, tile)?;
+    }
+    Ok(())
+}
+
+// The lowest tile that is not posted is posted under the number of the workers, where each of them has finished.
+fn sweep(alloc: Global, half: &mut Half<'_>, workers: u32) -> Result<(), AllocError>
+    requires same { half.old.state.plan ≡ half.old.plan }
+    requires fits { IsPhasePlan half.old.plan }
+    requires some { 1 ≤ half.old.plan.level }
+    requires cached { IsTrueCache half.old.plan.shares half.old.plan.side half.old.cache.items }
+    requires once { (k : ℕ) → posted_count k half.old.state.log ≤ 1 }
+    ensures only { OnOk result (IsOnly half.old.plan half.old.counter half.old.hands.items half.old.cache.items half.new) }
+    ensures log { OnOk result (half.new.state.log
+        ≡ log_swept workers (tiles_of half.old.plan.tiles) half.old.hands.items half.old.state.log) }
+{
+    if all_finished(&half.hands) {
+        let tiles = tile_count(&half.plan);
+        if let Some(tile) = lowest_unposted(&half.state, tiles) {
+            post_tile(alloc, half, workers, tile)?;
+        }
+    }
+    Ok(())
+}
+
 /// What happens at one side in a phase.
 pub fn step_half(
     alloc: Global,
@@ -177,7 +226,7 @@ pub fn step_half(
 {
     match step {
         Step::Claim(worker) => {
-            let tiles = half.plan.tiles.tiles();
+            let tiles = tile_count(&half.plan);
             half.counter = claim(&mut half.hands, half.counter, tiles, worker);
         }
         Step::Abandon(worker) => abandon(&mut half.hands, worker),
@@ -192,20 +241,8 @@ pub fn step_half(
             )?;
         }
         Step::Evict(report, prefix) => evict(&mut half.cache, report, &prefix),
-        Step::Post(worker) => {
-            if let Hand::Holding(tile) = hand_of(&half.hands, worker) {
-                half.hands[worker as usize] = Hand::Free;
-                post_tile(alloc, half, worker, tile)?;
-            }
-        }
-        Step::Sweep => {
-            if all_finished(&half.hands) {
-                let tiles = half.plan.tiles.tiles();
-                if let Some(tile) = lowest_unposted(&half.state, tiles) {
-                    post_tile(alloc, half, settings.workers, tile)?;
-                }
-            }
-        }
+        Step::Post(worker) => post(alloc, half, worker)?,
+        Step::Sweep => sweep(alloc, half, settings.workers)?,
     }
     Ok(())
 }

@@ -1,7 +1,7 @@
 pub mod Lists
-mod Steps
-mod Cutting
-mod Growing
-mod Marks
-mod Posts
-mod Filled
+pub mod Steps
+pub mod Cutting
+pub mod Growing
+pub mod Marks
+pub mod Posts
+pub mod Filled
