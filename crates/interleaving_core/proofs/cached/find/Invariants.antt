@@ -1,6 +1,0 @@
-use Rattle.std.proofs.Common.{◌≡◌, drop}
-use Rattle.interleaving_core.specs.Caches.{found_in}
-use Rattle.interleaving_core.proofs.cached.find.Given as goal
-
-abbrev pub invariant-loop-entry : goal.invariant-loop-entry
-invariant-loop-entry l = found_in (drop l.entry-index l.cache) l.report l.prefix ≡ found_in l.cache l.report l.prefix

@@ -1,6 +1,0 @@
-use Rattle.std.proofs.Common.{◌≡◌, ◌-◌, ◌++◌}
-use Rattle.core_definitions.specs.System.{places}
-use Rattle.interleaving_core.proofs.walks.all_places.Given as goal
-
-abbrev pub invariant-loop-place : goal.invariant-loop-place
-invariant-loop-place l = l.live.items ++ places l.place (l.count - l.place) ≡ places 0 l.count
