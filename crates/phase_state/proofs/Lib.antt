@@ -1,7 +1,7 @@
 pub mod Lists
 pub mod Steps
-pub mod Cutting
-pub mod Growing
+mod Cutting
+mod Growing
 pub mod Marks
-pub mod Posts
+mod Posts
 pub mod Filled

@@ -52,6 +52,13 @@ impl<'a> Model for PhasePlan<'a> {
 }
 
 impl<'a> PhasePlan<'a> {
+    /// The number of tiles.
+    pub fn count(&self) -> u32
+        ensures { result ≡ tiles_of self.now.tiles }
+    {
+        self.tiles.tiles()
+    }
+
     /// The tile of that number.
     pub fn tile(&self, number: u32) -> Tile
         requires { number < tiles_of self.now.tiles }

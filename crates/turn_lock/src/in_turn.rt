@@ -43,7 +43,7 @@ impl<S: Held> InTurn<S> {
         self.number
     }
 
-    // The seat and the number, apart.
+    /// The seat and the number, apart.
     pub(crate) fn into_seat(self) -> (LockSeat<S>, u32)
         ensures table { (result.0.table_id ≡ self.lock.table) × (result.1 ≡ self.number) }
         ensures me { result.0.me
@@ -56,7 +56,7 @@ impl<S: Held> InTurn<S> {
         (seat, number)
     }
 
-    // The turn that such a seat is in.
+    /// The turn that such a seat is in.
     pub(crate) fn from_seat(seat: LockSeat<S>, number: u32) -> InTurn<S>
         requires within { seat.me
             ≡ (inside seat.me.0.made seat.me.0.mine seat.me.0.ticket seat.me.0.taken, (0, None) ∷ []) }

@@ -2,6 +2,7 @@
 //! Who takes turns has a pass: it knows a beginning of the log, and all entries under its number.
 #![tactic(auto)]
 
+mod ending;
 mod in_turn;
 mod laws;
 mod lock;
@@ -13,6 +14,7 @@ mod tests;
 mod value;
 mod views;
 
+pub use ending::Ending;
 pub use in_turn::InTurn;
 pub use laws::{each_step_keeps_the_rule, the_kept_rule_is_orderly};
 pub use lock::Turn;

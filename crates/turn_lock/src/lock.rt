@@ -8,6 +8,7 @@ ghost use Rattle.turn_lock.specs.Logs.{entries_of, GrewBy};
 ghost use Rattle.turn_lock.specs.Seen.{LockSeen, fresh_passes, turn_of, pass_after};
 ghost use Rattle.turn_lock.specs.Seats.{resting, new_pass};
 
+use crate::ending::Ending;
 use crate::in_turn::InTurn;
 use crate::passes::Pass;
 use crate::rule::{Board, Draw, Key, Leave, LockSeat, Owner};
@@ -83,7 +84,19 @@ impl<S: Held> Turn<S> {
         Pass::from_seat(seat, number)
     }
 
-    // The words and the slot.
+    /// Begins to end the lock pass by pass, with the first pass that is handed in; [`Ending::hand_in`]
+    /// takes the others, in any order, and [`Ending::end`] gives the value back.
+    /// It neither waits nor takes memory.
+    pub fn end_with(self, pass: Pass<S>) -> Ending<S>
+        requires this_lock { pass.lock ≡ self.lock }
+        ensures { result ≡ record { lock = self.lock; passes = self.passes; handed = pass ∷ [] } }
+    {
+        let table = self.into_table();
+        let (keeper, _) = pass.into_seat();
+        Ending::from_parts(table, keeper)
+    }
+
+    /// The words and the slot.
     fn board(&self) -> &Board<S>
         ensures counts { (result.now.table_id ≡ self.now.lock.table)
             × (result.now.table_id.words ≡ 2) × (result.now.table_id.slots ≡ 1) }
@@ -93,7 +106,7 @@ impl<S: Held> Turn<S> {
         &self.table.shared
     }
 
-    // Their owner, to be ended.
+    /// Their owner, to be ended.
     fn into_table(self) -> Owner<S>
         ensures counts { (result.shared.table_id ≡ self.lock.table)
             × (result.shared.table_id.words ≡ 2) × (result.shared.table_id.slots ≡ 1) }
@@ -149,7 +162,7 @@ impl<S: Held + Drop> Turn<S> {
         finish(table, keeper)
     }
 
-    // The lock, and the seat of the first pass, which keeps the count.
+    /// The lock, and the seat of the first pass, which keeps the count.
     fn lay(alloc: Global, value: S, passes: u32) -> Result<(Turn<S>, LockSeat<S>), AllocError>
         requires count { (0 < passes) × (passes ≤ 4096) }
         requires empty { S.log value ≡ [] }

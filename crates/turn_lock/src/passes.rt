@@ -41,7 +41,7 @@ impl<S: Held> Pass<S> {
         self.number
     }
 
-    // The seat and the number, apart.
+    /// The seat and the number, apart.
     pub(crate) fn into_seat(self) -> (LockSeat<S>, u32)
         ensures table { (result.0.table_id ≡ self.lock.table) × (result.1 ≡ self.number) }
         ensures me { result.0.me ≡ (resting result.0.me.0.made (mine_of self ∷ []), []) }
@@ -50,7 +50,7 @@ impl<S: Held> Pass<S> {
         (seat, number)
     }
 
-    // The pass that such a seat is.
+    /// The pass that such a seat is.
     pub(crate) fn from_seat(seat: LockSeat<S>, number: u32) -> Pass<S>
         requires out { seat.me ≡ (resting seat.me.0.made seat.me.0.mine, []) }
         requires one { 1 ≡ length seat.me.0.mine }

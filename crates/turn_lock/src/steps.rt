@@ -11,8 +11,13 @@ use crate::passes::Pass;
 use crate::rule::{Board, Deal, Gather, LockSeat, Owner, Watch};
 use crate::value::Held;
 use std::sync::Wait;
+use std::thread::yield_now;
 
-// Reads the word of serving until it shows the seat's ticket: the seat is then in turn, with the value in its slot.
+/// How often a seat reads the word of serving before it yields its processor after each further read.
+const READS_BEFORE_YIELDING: u32 = 128;
+
+/// Reads the word of serving until it shows the seat's ticket: the seat is then in turn, with the value in its slot.
+/// After [`READS_BEFORE_YIELDING`] reads it lets other threads run between two of them.
 pub(crate) fn wait_for_turn<S: Held, R: Wait>(
     rt: &R,
     shared: &Board<S>,
@@ -27,15 +32,21 @@ pub(crate) fn wait_for_turn<S: Held, R: Wait>(
         × (seat.new.me ≡ (inside seat.old.me.0.made seat.old.me.0.mine t (S.log x), (0, Some x) ∷ []))
         × AllByRecursion (Knows S.by (S.plan x) (S.log x)) seat.old.me.0.mine }
 {
+    let mut quick = READS_BEFORE_YIELDING;
     for _ in rt.forever() {
         if shared.load::<Watch>(seat, 1) == ticket {
             return;
+        }
+        if quick > 0 {
+            quick -= 1;
+        } else {
+            yield_now();
         }
     }
     unreachable!()
 }
 
-// Makes the pass of the next number from the seat that keeps the count.
+/// Makes the pass of the next number from the seat that keeps the count.
 pub(crate) fn deal<S: Held>(shared: &Board<S>, keeper: &mut LockSeat<S>, number: u32) -> Pass<S>
     requires mine { (keeper.old.table_id ≡ shared.now.table_id) × (0 < shared.now.table_id.words) }
     requires first { keeper.old.me
@@ -51,7 +62,7 @@ pub(crate) fn deal<S: Held>(shared: &Board<S>, keeper: &mut LockSeat<S>, number:
     Pass::from_seat(seat, number)
 }
 
-// Hands the pass in to the keeper's seat.
+/// Hands the pass in to the keeper's seat.
 pub(crate) fn take_in<S: Held>(shared: &Board<S>, keeper: &mut LockSeat<S>, pass: Pass<S>)
     requires mine { (keeper.old.table_id ≡ shared.now.table_id)
         × (pass.lock.table ≡ shared.now.table_id) × (0 < shared.now.table_id.words) }
@@ -63,7 +74,7 @@ pub(crate) fn take_in<S: Held>(shared: &Board<S>, keeper: &mut LockSeat<S>, pass
     shared.join_seat::<Gather>(keeper, seat);
 }
 
-// Hands all passes in to one seat.
+/// Hands all passes in to one seat.
 pub(crate) fn gather<S: Held + Drop>(shared: &Board<S>, mut passes: Vec<Pass<S>>) -> LockSeat<S>
     requires some { 0 < vec_len passes }
     requires mine { AllByRecursion (λ pass. pass.lock.table ≡ shared.now.table_id) passes.items }
@@ -81,7 +92,7 @@ pub(crate) fn gather<S: Held + Drop>(shared: &Board<S>, mut passes: Vec<Pass<S>>
     keeper
 }
 
-// Ends the table with a seat that has every pass, and gives the value back.
+/// Ends the table with a seat that has every pass, and gives the value back.
 pub(crate) fn finish<S: Held>(table: Owner<S>, keeper: LockSeat<S>) -> S
     requires mine { (keeper.table_id ≡ table.shared.table_id) × (table.shared.table_id.slots ≡ 1) }
     requires out { keeper.me ≡ (resting keeper.me.0.made keeper.me.0.mine, []) }

@@ -133,7 +133,7 @@ fn meet<'a, R: Threads + Wait + Sync>(
     Ok(turn.close(passes))
 }
 
-// The same on one thread, the first pass before the second.
+// The same on one thread, the first pass before the second, and the end pass by pass.
 fn in_turn<'a, R: Wait>(rt: &R, alloc: Global, words: &'a [u32]) -> Result<Book<'a>, AllocError> {
     let visits = Vec::with_capacity(alloc, 2)?;
     let (turn, mut passes) = Turn::new(alloc, Book { words, visits }, 2)?;
@@ -143,9 +143,9 @@ fn in_turn<'a, R: Wait>(rt: &R, alloc: Global, words: &'a [u32]) -> Result<Book<
     let Some(first) = passes.pop() else {
         unreachable!()
     };
-    passes.push_reserved(pay_visit(rt, &turn, first, 0));
-    passes.push_reserved(pay_visit(rt, &turn, second, 0));
-    Ok(turn.close(passes))
+    let first = pay_visit(rt, &turn, first, 0);
+    let second = pay_visit(rt, &turn, second, 0);
+    Ok(turn.end_with(first).hand_in(second).end())
 }
 
 // The visits under a number are the steps from 0 on, so many, in order.
