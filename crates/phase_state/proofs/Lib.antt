@@ -1,6 +1,6 @@
 pub mod Lists
 pub mod Steps
-mod Cutting
+pub mod Cutting
 mod Growing
 pub mod Marks
 mod Posts
