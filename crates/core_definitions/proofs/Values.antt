@@ -109,6 +109,10 @@ bits-is (x ∷ xs) (y ∷ ys) e =
     bit false true e = cc
     bit false false e = refl
 
+pub is-its-entry : (e : CacheEntry) (i : ℕ) (q : List Bool) → is_entry i q e ≡ true → (e.report ≡ i) × (e.prefix ≡ q)
+is-its-entry e i q f =
+    let parts = and_parts (nat_eq e.report i) (same_bits e.prefix q) f in (eqb-true e.report i parts.0, bits-is e.prefix q parts.1)
+
 entry-is : (batch : List Report) (side : Side) (e : CacheEntry) (i : ℕ) (q : List Bool) → e.node ≡ plain_node batch side e.report e.prefix → is_entry i q e ≡ true
     → e.node ≡ plain_node batch side i q
 entry-is batch side e i q h f =
@@ -127,7 +131,7 @@ descend-push (w ∷ ws) side n (c ∷ q) b p =
     descend-cons w ws side n c (q ++ b ∷ []) ∙ descend-push ws side (child w side n c) q b (omega (arith, p))
     ∙ ap (λ m. child (slice_index_or ws (length q) no_word) side m b) (sym (descend-cons w ws side n c q))
 
-child-is : (share : Share) (side : Side) (q : List Bool) → has_step share q ≡ true
+pub child-is : (share : Share) (side : Side) (q : List Bool) → has_step share q ≡ true
     → child (level_word share (length q)) side (node share side (parent q)) (slice_index_or q (length q - 1) false) ≡ node share side q
 child-is share side q e =
     let parts = and_parts (nat_lt 0 (length q)) (nat_le (length q) (length share.levels)) e in

@@ -1,7 +1,7 @@
 pub mod Lists
-mod Steps
-mod Cutting
+pub mod Steps
+pub mod Cutting
 mod Growing
 pub mod Marks
 mod Posts
-mod Filled
+pub mod Filled

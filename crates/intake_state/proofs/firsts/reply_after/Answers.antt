@@ -1,5 +1,5 @@
-use Rattle.std.proofs.Common.{◌≡◌, sym, ◌∙◌, refl}
-use Rattle.intake_state.proofs.Entering.{first-below, reply-none, reply-some}
+use Rattle.std.proofs.Common.{sym, ◌∙◌}
+use Rattle.intake_state.proofs.Entering.{reply-none, reply-some}
 use Rattle.intake_state.proofs.firsts.reply_after.Goals as goal
 
 pub returns-in-None : goal.returns-in-None

@@ -1,9 +1,9 @@
-use Rattle.std.proofs.Common.{◌≡◌, ℕ, List, Some, cond, refl, sym, ◌∙◌, ap, subst, [], length}
+use Rattle.std.proofs.Common.{◌≡◌, ℕ, List, Some, cond, sym, ◌∙◌, ap, subst, [], length}
 use Rattle.std.specs.BTreeMap.{get}
 use Rattle.std.specs.Ordering.{is_eq}
-use Rattle.core_definitions.specs.System.{IsLegalAfter, Entry, reply_to}
+use Rattle.core_definitions.specs.System.{Entry, reply_to}
 use Rattle.core_definitions.proofs.Runs.{legal-more}
-use Rattle.intake_state.specs.Firsts.{first_in, first_after}
+use Rattle.intake_state.specs.Firsts.{first_after}
 use Rattle.intake_state.proofs.Orders.{id_cmp}
 use Rattle.intake_state.proofs.Entering.{entered}
 use Rattle.intake_state.proofs.intakes.IntakeState.upload.Goals as goal
