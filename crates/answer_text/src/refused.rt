@@ -9,7 +9,7 @@ ghost use Rattle.answer_text.specs.RefusedText.{refused_line, refused_text};
 use definitions::Side;
 use std::alloc::{AllocError, Global};
 
-// A side's number.
+/// A side's number.
 fn number_of(side: Side) -> u8
     ensures value { result ≡ side_number side }
 {

@@ -1,6 +1,6 @@
 -- One side's phase: its counter, its workers, its cache, and what is posted.
 use Rattle.std.specs.Prelude.{◌≡◌, ◌⊎◌, ℕ, zero, suc, ◌+◌, ◌<◌, ◌≤◌, Bool, true, false, not, if◌then◌else◌, ◌&&◌, List, [], ◌∷◌, ◌++◌, Option, Some, None, map, length, nat_eq, nat_lt, nat_le, get_or, slice_set, ◌-◌, take, slice_index_or}
-use Rattle.std.specs.List.{count_by, list_all, AllByRecursion}
+use Rattle.std.specs.List.{count_by, filter, list_all, AllByRecursion}
 use Rattle.std.specs.Cmp.Lexicographic.{pointwise}
 use Rattle.definitions.specs.declared.Side.{Side}
 use Rattle.definitions.specs.Field.{add}
@@ -10,6 +10,8 @@ use Rattle.definitions.specs.Sketch.{Sums, sums_added, coin}
 use Rattle.walk_definitions.specs.Reports.{Report, held}
 use Rattle.walk_definitions.specs.Walk.{Settings}
 use Rattle.walk_definitions.specs.Heard.{paired}
+use Rattle.core_definitions.specs.declared.hand.Hand.{Hand}
+use Rattle.core_definitions.specs.declared.hand.Hand.TheVariants.{Free, Holding, Finished}
 use Rattle.core_definitions.specs.Tiles.{TilePlan, no_sums, tiles, tile_sums, sums_of_tiles, plain_sums, tile_totals, totals_of_tiles, plain_totals}
 
 pub record CoreSettings : Type 0 where
@@ -129,12 +131,6 @@ plain_values core phase totalling nodes = of_totals (plain_totals (plan_of core 
 
 -- ---- one side
 
--- a worker holds no tile, or one, or has had its None
-pub data Hand : Type 0 where
-  free : Hand
-  holding : ℕ → Hand
-  finished : Hand
-
 pub record Posting : Type 0 where
   pub number : ℕ
   pub tile : ℕ
@@ -147,14 +143,14 @@ pub record Half : Type 0 where
   pub values : Values
 
 abbrev pub holds : ℕ → Hand → Bool
-holds k free = false
-holds k (holding n) = nat_eq n k
-holds k finished = false
+holds k Free = false
+holds k (Holding n) = nat_eq n k
+holds k Finished = false
 
 abbrev pub is_finished : Hand → Bool
-is_finished free = false
-is_finished (holding n) = false
-is_finished finished = true
+is_finished Free = false
+is_finished (Holding n) = false
+is_finished Finished = true
 
 abbrev pub held_count : ℕ → List Hand → ℕ
 held_count k hands = count_by (holds k) hands
@@ -172,7 +168,7 @@ first_unposted core phase log = unposted log 0 (tiles (plan_of core phase))
 
 -- no worker of that number: as one that has had its None
 abbrev pub hand_at : List Hand → ℕ → Hand
-hand_at hands w = get_or hands w finished
+hand_at hands w = get_or hands w Finished
 
 -- a tile that is posted already changes nothing
 unfoldable pub with_posting : CoreSettings → Phase → Side → ℕ → ℕ → Half → Half
@@ -195,30 +191,29 @@ pub data HalfEvent : Type 0 where
   sweep : HalfEvent
 
 abbrev pub drawn : ℕ → ℕ → Hand
-drawn n count = if nat_lt n count then holding n else finished
+drawn n count = if nat_lt n count then Holding n else Finished
 
 abbrev pub claimed : ℕ → ℕ → Hand → Half → Half
-claimed count w free half = record half { counter = half.counter + 1; hands = slice_set half.hands w (drawn half.counter count) }
-claimed count w (holding k) half = half
-claimed count w finished half = half
+claimed count w Free half = record half { counter = half.counter + 1; hands = slice_set half.hands w (drawn half.counter count) }
+claimed count w (Holding k) half = half
+claimed count w Finished half = half
 
 abbrev pub abandoned : ℕ → Hand → Half → Half
-abandoned w free half = half
-abandoned w (holding k) half = record half { hands = slice_set half.hands w free }
-abandoned w finished half = half
+abandoned w Free half = half
+abandoned w (Holding k) half = record half { hands = slice_set half.hands w Free }
+abandoned w Finished half = half
 
 abbrev pub posted : CoreSettings → Phase → Side → ℕ → Hand → Half → Half
-posted core phase side w free half = half
-posted core phase side w (holding k) half = with_posting core phase side w k (record half { hands = slice_set half.hands w free })
-posted core phase side w finished half = half
+posted core phase side w Free half = half
+posted core phase side w (Holding k) half = with_posting core phase side w k (record half { hands = slice_set half.hands w Free })
+posted core phase side w Finished half = half
 
 abbrev pub swept : CoreSettings → Phase → Side → Option ℕ → Half → Half
 swept core phase side None half = half
 swept core phase side (Some k) half = with_posting core phase side core.workers k half
 
 abbrev pub without : ℕ → List Bool → List CacheEntry → List CacheEntry
-without i q [] = []
-without i q (e ∷ es) = if is_entry i q e then without i q es else e ∷ without i q es
+without i q cache = filter (λ e. not (is_entry i q e)) cache
 
 abbrev pub may_fill : CoreSettings → Phase → ℕ → List Bool → Half → Bool
 may_fill core phase i q half =

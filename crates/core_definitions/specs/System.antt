@@ -12,7 +12,9 @@ use Rattle.walk_definitions.specs.Walk.{Settings, End, done, capped, peer_messag
 use Rattle.walk_definitions.specs.Heard.{paired}
 use Rattle.core_definitions.specs.declared.replies.Reply.{Reply}
 use Rattle.core_definitions.specs.declared.replies.Reply.TheVariants.{Stored, Repeat, Clash}
-use Rattle.core_definitions.specs.Phase.{CoreSettings, Kind, sketching, totalling, Phase, report_at, Values, of_sketch, of_totals, no_values, CacheEntry, Hand, free, Half, HalfEvent, half_after, first_unposted, ArePlaces, HalfKept}
+use Rattle.core_definitions.specs.declared.hand.Hand.{Hand}
+use Rattle.core_definitions.specs.declared.hand.Hand.TheVariants.{Free}
+use Rattle.core_definitions.specs.Phase.{CoreSettings, Kind, sketching, totalling, Phase, report_at, Values, of_sketch, of_totals, no_values, CacheEntry, Half, HalfEvent, half_after, first_unposted, ArePlaces, HalfKept}
 
 -- ---- intakes
 
@@ -56,7 +58,7 @@ phase_of w = record { batch = w.batch; level = suc w.past; kind = w.kind; live =
 
 abbrev pub hands_of : ℕ → List Hand
 hands_of zero = []
-hands_of (suc n) = free ∷ hands_of n
+hands_of (suc n) = Free ∷ hands_of n
 
 -- nothing is drawn and nothing posted
 unfoldable pub fresh_half : CoreSettings → Phase → List CacheEntry → Half

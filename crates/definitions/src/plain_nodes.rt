@@ -57,7 +57,7 @@ impl Model for PlainNode {
     ghost inverse = { λ n. record { seed = n.seed; bit = n.bit; d = n.d; e = n.e } };
 }
 
-// A side's element at a child.
+/// A side's element at a child.
 fn value(side: Side, bit: bool, own: u128, correction: u64) -> u64
     ensures value { result ≡ child_value side bit own correction }
 {

@@ -7,7 +7,7 @@ ghost use Rattle.definitions.specs.Field.{modulus, add, sub, mul, neg};
 use definitions::plain_field::MODULUS;
 use std::marker::Model;
 
-// 2^64 modulo the modulus.
+/// 2^64 modulo the modulus.
 const CARRY: u64 = 0xffff_ffff;
 
 /// An element of the field, seen as its number, which is below the modulus.

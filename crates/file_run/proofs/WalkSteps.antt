@@ -1,37 +1,37 @@
 -- What the walk's answer says of the run's.
-use Rattle.std.proofs.Common.{◌≡◌, inl, inr, ℕ, suc, not, lit≤, ◌*◌, ◌<◌, ◌≤◌, ◌^◌, Bool, List, [], ◌∷◌, ◌++◌, length, drop, refl, sym, ap, subst, ◌∙◌, arith}
-use Rattle.std.specs.Prelude.{Option, None, Some, Ok, Err, IfSome}
-use Rattle.std.specs.List.{filter}
+use Rattle.std.proofs.Common.{◌≡◌, inl, ℕ, ◌≤◌, List, ◌++◌, length, drop, refl, sym, ap, subst, ◌∙◌, arith, inr}
+use Rattle.std.specs.Prelude.{Option, None, Some, Result, Ok, Err, IfOk, IfSome, IsOk}
 use Rattle.std.proofs.lemmas.List.{take_all}
 use Rattle.std.proofs.Math.Seq.{drop-append_seam}
-use Rattle.std.proofs.lemmas.List.Filters.{length-filter_both}
-use Rattle.definitions.specs.Field.{modulus}
+use Rattle.definitions.specs.Evaluation.{Share}
 use Rattle.definitions.specs.declared.Side.TheVariants.{Zero, One}
 use Rattle.shelf_io.specs.Talks.{Talk}
 use Rattle.walk_definitions.specs.Reports.{Report, batch}
-use Rattle.walk_definitions.specs.Walk.{Settings, Heavy, End, done, capped, peer_message, views, walk, passes, live_at, stage_after, first_candidates}
-use Rattle.walk_definitions.specs.Heavy.{heavy}
+use Rattle.walk_definitions.specs.Walk.{Settings, End, walk, capped, peer_message, views}
 use Rattle.walk_definitions.specs.Messages.{Message, messages}
 use Rattle.walk_definitions.specs.Heard.{Heard, heard}
-use Rattle.walk_definitions.specs.Laws.{AreGenerated, IsHonest}
-use Rattle.report_batch.proofs.Sizes.{size}
-use Rattle.pair_run.specs.Failures.{end_of}
-use Rattle.pair_run.specs.Talking.{Grew, IsReady, SentMore}
-use Rattle.pair_run.specs.Walks.{HeardSo, TrulyFails}
+use Rattle.shelf_io.specs.Seen.{LinkSeen, IsTrueAndIdle, Sources}
+use Rattle.pair_run.specs.Keeps.{WalkKeeps}
+use Rattle.pair_run.specs.Steps.{answer_end}
+use Rattle.pair_run.specs.Talking.{Grew, SentMore}
+use Rattle.pair_run.specs.Walks.{HeardSo}
+use Rattle.pair_run.specs.declared.answers.Answer.{Answer}
 use Rattle.pair_run.specs.declared.answers.PairError.{PairError}
-use Rattle.pair_run.specs.declared.answers.PairError.TheVariants as walks
-use Rattle.file_run.specs.declared.errors.RunError.{RunError}
-use Rattle.file_run.specs.declared.errors.RunError.TheVariants.{Walk, Memory}
-use Rattle.file_run.specs.declared.rules.RunRules.{RunRules}
-use Rattle.file_run.specs.Beginnings.{Both, settings_for, batch_for, refused_for}
-use Rattle.file_run.specs.Answers.{Ending, ended, run_answer, Answered, FindsHeavy}
-use Rattle.file_run.specs.Ranges.{IsInRange}
 use Rattle.answer_text.specs.AnswerText.{answer_text, sealed_line}
 use Rattle.answer_text.specs.RefusedText.{refused_text}
-use Rattle.definitions.specs.Evaluation.{Share}
+use Rattle.file_run.specs.declared.errors.RunError.{RunError}
+use Rattle.file_run.specs.declared.errors.RunError.TheVariants.{Memory, Walk}
+use Rattle.file_run.specs.declared.rules.RunRules.{RunRules}
 use Rattle.file_run.specs.declared.texts.RunTexts.{RunTexts}
+use Rattle.pair_run.specs.Failures.{end_of}
+use Rattle.pair_run.specs.declared.answers.PairError.TheVariants as walks
+use Rattle.file_run.specs.Answers.{Ending, ended, run_answer, Answered, FindsHeavy, IsOfTheWalk}
+use Rattle.file_run.specs.Beginnings.{Both, begun, settings_for, batch_for, refused_for}
 use Rattle.file_run.specs.Hearings.{got, heard_between, heard_ending}
+use Rattle.file_run.specs.Keeps.{RunKeeps}
+use Rattle.file_run.specs.Readings.{BothGive}
 use Rattle.file_run.specs.Sendings.{SentHeard, SentWhole, SentFront, SentBy}
+use Rattle.file_run.proofs.ReadSteps.{some_map}
 
 -- ---- the lists that were walked, and the lines of their malformed records
 
@@ -43,24 +43,6 @@ pub lines_same : (both : Both) (malformed0 malformed1 line text : List ℕ) → 
 lines_same both malformed0 malformed1 line text is zero one =
     is ∙ ap (λ m. (refused_text Zero m ++ refused_text One malformed1) ++ line) zero
     ∙ ap (λ m. (refused_text Zero both.0.malformed ++ refused_text One m) ++ line) one
-
--- ---- how many
-
-as_many : (bits : ℕ) (reports : List Report) (strings : List (List Bool)) → AreGenerated bits reports strings → length reports ≡ length strings
-as_many bits [] [] h = refl
-as_many bits [] (s ∷ ss) h = absurd h
-as_many bits (r ∷ rs) [] h = absurd h
-as_many bits (r ∷ rs) (s ∷ ss) h = ap suc (as_many bits rs ss h.2)
-
-filter_few : {X : Type 0} (p : X → Bool) (xs : List X) → length (filter p xs) ≤ length xs
-filter_few p xs = omega (arith, length-filter_both p (λ x. not (p x)) (λ x. refl) xs)
-
-live_few : (settings : Settings) (reports : List Report) → length (live_at settings reports 1) ≤ length reports
-unfolding stage_after
-live_few settings reports = filter_few (passes settings 1 first_candidates) reports
-
-below_modulus : {n : ℕ} → n < 2 ^ 27 → n < modulus
-below_modulus {n} h = let most : 2 ^ 27 ≤ modulus = lit≤ tt in omega (arith, h, most)
 
 -- ---- what was heard
 
@@ -76,12 +58,16 @@ module _ (settings : Settings) (reports : List Report) where
       ∙ ap (heard settings reports zero) (grown before.received.one now.received.one one grew.one_grew)
       ∙ h
 
-  -- a walk that was heard to end so ends so by the definition of what was heard
-  pub heard_end : (before now : Option Talk) (end : End) → HeardSo settings reports before now end
-      → IfSome (heard_ending before now) (λ ending. ending settings reports ≡ end)
-  heard_end None now end h = tt
-  heard_end (Some before) None end h = absurd h
-  heard_end (Some before) (Some now) end (sent, zero, one, grew, is) = ap (λ (x : Heard). x.end) (heard_is before now end sent zero one grew is)
+  -- what holds of each way to end that an end heard goes with holds of the one that was heard
+  heard_by : (before after : Option Talk) (o : Option End) (P : Ending → Type 0) → IfSome o (HeardSo settings reports before after)
+      → ((ending : Ending) → IfSome o (λ end. ending settings reports ≡ end) → P ending) → IfSome (heard_ending before after) P
+  heard_by None after o P h f = tt
+  heard_by (Some before) None o P h f = tt
+  heard_by (Some before) (Some after) o P h f = f (λ s rs. (heard_between before after s rs).end) (at o h)
+    where
+      at : (o : Option End) → IfSome o (HeardSo settings reports (Some before) (Some after)) → IfSome o (λ end. (heard_between before after settings reports).end ≡ end)
+      at None h = tt
+      at (Some end) (sent, zero, one, grew, is) = ap (λ (x : Heard). x.end) (heard_is before after end sent zero one grew is)
 
   heard_sent : (before now : Option Talk) (end : End) → HeardSo settings reports before now end → SentHeard settings reports before now
   heard_sent None now end h = tt
@@ -89,174 +75,134 @@ module _ (settings : Settings) (reports : List Report) where
   heard_sent (Some before) (Some now) end (sent, zero, one, grew, is) =
       grew.sent_grew ∙ ap (λ ms. before.sent ++ ms) (sym (ap (λ (x : Heard). x.messages) (heard_is before now end sent zero one grew is)))
 
-  -- ---- the messages
+  whole : (before after : LinkSeen) (end : End) → HeardSo settings reports before.talk after.talk end → (IsTrueAndIdle before → IsTrueAndIdle after)
+      → (IsTrueAndIdle before → SentMore before.talk after.talk (messages settings reports)) → SentWhole settings reports before after
+  whole before after end h again sends = record { heard = heard_sent before.talk after.talk end h; truly = λ ready. (again ready, sends ready) }
 
-  pub whole : (truth0 truth1 : Bool) (before now : Option Talk) (end : End) → HeardSo settings reports before now end
-      → (IsReady truth0 before → IsReady truth1 now × SentMore before now (messages settings reports)) → SentWhole settings reports truth0 truth1 before now
-  whole truth0 truth1 before now end h truly = record { heard = heard_sent before now end h; truly = truly }
-
-  pub front : (truth0 truth1 : Bool) (before now : Option Talk) → SentWhole settings reports truth0 truth1 before now → SentFront settings reports truth0 before now
-  front truth0 truth1 before now sent ready = (
+  pub front : (before after : LinkSeen) → SentWhole settings reports before after → SentFront settings reports before after
+  front before after sent ready = (
     length (messages settings reports),
-    subst (λ ms. SentMore before now ms) (sym (take_all (length (messages settings reports)) (messages settings reports) (omega arith))) (sent.truly ready).1,
+    subst (λ ms. SentMore before.talk after.talk ms) (sym (take_all (length (messages settings reports)) (messages settings reports) (omega arith))) (sent.truly ready).1,
   )
 
--- ---- a walk without an answer
+-- the promise of a walk of equal settings and reports
+pub same_walk : (settings settings' : Settings) (reports reports' : List Report) (before after : LinkSeen) (result : Result Answer PairError)
+    → settings ≡ settings' → reports ≡ reports' → WalkKeeps settings reports before after result → WalkKeeps settings' reports' before after result
+same_walk settings settings' reports reports' before after result s r k =
+    subst (λ x. WalkKeeps x reports' before after result) s (subst (λ x. WalkKeeps settings x before after result) r k)
 
--- an end that is an error of the walk
-abbrev IsEndOf : RunError → List ℕ → ℕ → Option End → Type 0
-IsEndOf e refused sealed o = IfSome o (λ end. ended refused sealed end ≡ Err e)
+module _ (rules : RunRules) (both : Both) where
+  abbrev asked : Settings
+  asked = settings_for rules both.0.width
 
-ends_as : (e : PairError) (refused : List ℕ) (sealed : ℕ) → IsEndOf (Walk e) refused sealed (end_of e)
-ends_as (walks.Cap level wanted) refused sealed = refl
-ends_as walks.Link refused sealed = tt
-ends_as (walks.PeerMessage level kind at) refused sealed = refl
-ends_as (walks.Views level kind place left right) refused sealed = refl
-ends_as walks.Memory refused sealed = tt
+  -- an error of the walk is the run's, where the walk ends with it
+  error_answered : (ending : Ending) (e : PairError) → IfSome (end_of e) (λ end. ending asked (batch_for both) ≡ end)
+      → Answered (Err (Walk e)) (run_answer ending rules (Ok both))
+  error_answered ending (walks.Cap level wanted) h = inr (ap (ended (refused_for both) (length (batch_for both))) h)
+  error_answered ending walks.Link h = inl tt
+  error_answered ending (walks.PeerMessage level kind at) h = inr (ap (ended (refused_for both) (length (batch_for both))) h)
+  error_answered ending (walks.Views level kind place left right) h = inr (ap (ended (refused_for both) (length (batch_for both))) h)
+  error_answered ending walks.Memory h = inl tt
 
-module _ (rules : RunRules) (both : Both) (settings : Settings) (reports : List Report) (same_settings : settings ≡ settings_for rules both.0.width) (same_reports : reports ≡ batch_for both) where
-  -- an end of the walk is the end that the run's answer speaks of
-  same_end : (ending : Ending) (end : End) → ending settings reports ≡ end → ending (settings_for rules both.0.width) (batch_for both) ≡ end
-  same_end ending end h = subst (λ s. ending s (batch_for both) ≡ end) same_settings (subst (λ r. ending settings r ≡ end) same_reports h)
+  module _ (before after : LinkSeen) where
+    error_sent : (e : PairError) → WalkKeeps asked (batch_for both) before after (Err e) → SentBy rules both before after (Err (Walk e))
+    error_sent (walks.Cap level wanted) k = whole asked (batch_for both) before after (capped level wanted) k.heard k.again k.sends
+    error_sent walks.Link k = k.sends
+    error_sent (walks.PeerMessage level kind at) k = whole asked (batch_for both) before after (peer_message level kind at) k.heard k.again k.sends
+    error_sent (walks.Views level kind place left right) k =
+        whole asked (batch_for both) before after (views level kind place left right) k.heard k.again k.sends
+    error_sent walks.Memory k = k.sends
 
-  ends_run : (ending : Ending) (end : End) → ending settings reports ≡ end
-      → run_answer ending rules (Ok both) ≡ ended (refused_for both) (length (batch_for both)) end
-  ends_run ending end h = ap (ended (refused_for both) (length (batch_for both))) (same_end ending end h)
-
-  heard_run : (before now : Option Talk) (end : End) → HeardSo settings reports before now end
-      → IfSome (heard_ending before now) (λ ending. run_answer ending rules (Ok both) ≡ ended (refused_for both) (length (batch_for both)) end)
-  heard_run before now end h = at (heard_ending before now) (heard_end settings reports before now end h)
-    where
-      at : (o : Option Ending) → IfSome o (λ ending. ending settings reports ≡ end)
-          → IfSome o (λ ending. run_answer ending rules (Ok both) ≡ ended (refused_for both) (length (batch_for both)) end)
-      at None h = tt
-      at (Some ending) h = ends_run ending end h
-
-  heard_error : (e : PairError) (end : End) (before now : Option Talk) → ended (refused_for both) (length (batch_for both)) end ≡ Err (Walk e)
-      → HeardSo settings reports before now end → IfSome (heard_ending before now) (λ ending. Answered (Err (Walk e)) (run_answer ending rules (Ok both)))
-  heard_error e end before now is h = at (heard_ending before now) (heard_run before now end h)
-    where
-      at : (o : Option Ending) → IfSome o (λ ending. run_answer ending rules (Ok both) ≡ ended (refused_for both) (length (batch_for both)) end)
-          → IfSome o (λ ending. Answered (Err (Walk e)) (run_answer ending rules (Ok both)))
-      at None h = tt
-      at (Some ending) h = inr (h ∙ is)
-
-  outside : (e : PairError) (before now : Option Talk) → ((ending : Ending) → Answered (Err (Walk e)) (run_answer ending rules (Ok both)))
-      → IfSome (heard_ending before now) (λ ending. Answered (Err (Walk e)) (run_answer ending rules (Ok both)))
-  outside e before now h = at (heard_ending before now)
-    where
-      at : (o : Option Ending) → IfSome o (λ ending. Answered (Err (Walk e)) (run_answer ending rules (Ok both)))
-      at None = tt
-      at (Some ending) = h ending
-
-  -- the walk's error is what was heard, or one of the outside
-  pub walk_heard : (e : PairError) (before now : Option Talk) → IfSome (end_of e) (HeardSo settings reports before now)
-      → IfSome (heard_ending before now) (λ ending. Answered (Err (Walk e)) (run_answer ending rules (Ok both)))
-  walk_heard (walks.Cap level wanted) before now h = heard_error (walks.Cap level wanted) (capped level wanted) before now refl h
-  walk_heard walks.Link before now h = outside walks.Link before now (λ ending. inl tt)
-  walk_heard (walks.PeerMessage level kind at) before now h = heard_error (walks.PeerMessage level kind at) (peer_message level kind at) before now refl h
-  walk_heard (walks.Views level kind place left right) before now h =
-      heard_error (walks.Views level kind place left right) (views level kind place left right) before now refl h
-  walk_heard walks.Memory before now h = outside walks.Memory before now (λ ending. inl tt)
-
-  -- on a true link it is the walk's cap, or an error of the outside
-  pub walk_truly : (e : PairError) (truth : Bool) (before now : Option Talk) → TrulyFails settings reports truth before now e
-      → Answered (Err (Walk e)) (run_answer walk rules (Ok both))
-  walk_truly (walks.Cap level wanted) truth before now h = inr (ends_run walk (capped level wanted) h.0)
-  walk_truly walks.Link truth before now h = inl tt
-  walk_truly (walks.PeerMessage level kind at) truth before now h = absurd h
-  walk_truly (walks.Views level kind place left right) truth before now h = absurd h
-  walk_truly walks.Memory truth before now h = inl tt
-
-  whole_here : (truth0 truth1 : Bool) (before now : Option Talk) → SentWhole settings reports truth0 truth1 before now
-      → SentWhole (settings_for rules both.0.width) (batch_for both) truth0 truth1 before now
-  whole_here truth0 truth1 before now h =
-      subst (λ s. SentWhole s (batch_for both) truth0 truth1 before now) same_settings (subst (λ r. SentWhole settings r truth0 truth1 before now) same_reports h)
-
-  front_here : (truth : Bool) (before now : Option Talk) → SentFront settings reports truth before now
-      → SentFront (settings_for rules both.0.width) (batch_for both) truth before now
-  front_here truth before now h =
-      subst (λ s. SentFront s (batch_for both) truth before now) same_settings (subst (λ r. SentFront settings r truth before now) same_reports h)
-
-  -- what an error of the walk sent
-  pub walk_sent : (e : PairError) (truth0 truth1 : Bool) (before now : Option Talk) → IfSome (end_of e) (HeardSo settings reports before now)
-      → (IsReady truth0 before → TrulyFails settings reports truth1 before now e) → SentBy rules both truth0 truth1 before now (Err (Walk e))
-  walk_sent (walks.Cap level wanted) truth0 truth1 before now h truly =
-      whole_here truth0 truth1 before now (whole settings reports truth0 truth1 before now (capped level wanted) h (λ ready. ((truly ready).1, (truly ready).2)))
-  walk_sent walks.Link truth0 truth1 before now h truly = front_here truth0 before now truly
-  walk_sent (walks.PeerMessage level kind at) truth0 truth1 before now h truly =
-      whole_here truth0 truth1 before now (whole settings reports truth0 truth1 before now (peer_message level kind at) h (λ ready. absurd (truly ready)))
-  walk_sent (walks.Views level kind place left right) truth0 truth1 before now h truly =
-      whole_here truth0 truth1 before now (whole settings reports truth0 truth1 before now (views level kind place left right) h (λ ready. absurd (truly ready)))
-  walk_sent walks.Memory truth0 truth1 before now h truly = front_here truth0 before now truly
+    error_agreed : (e : PairError) → WalkKeeps asked (batch_for both) before after (Err e) → IsTrueAndIdle before → IsOfTheWalk (Walk e)
+    error_agreed (walks.Cap level wanted) k ready = tt
+    error_agreed walks.Link k ready = tt
+    error_agreed (walks.PeerMessage level kind at) k ready = (k.truly ready).1
+    error_agreed (walks.Views level kind place left right) k ready = (k.truly ready).1
+    error_agreed walks.Memory k ready = tt
 
   -- ---- a walk with an answer
 
-  texts_are : (texts : RunTexts) (levels passed sealed : ℕ) (heavy : List Heavy) → texts.out.items ≡ answer_text heavy
-      → texts.err.items ≡ refused_for both ++ sealed_line sealed passed levels → sealed ≡ length reports
-      → ended (refused_for both) (length (batch_for both)) (done levels passed heavy) ≡ Ok (texts.out.items, texts.err.items)
-  texts_are texts levels passed sealed heavy out err count =
-      let same : length (batch_for both) ≡ sealed = ap (λ (rs : List Report). length rs) (sym same_reports) ∙ sym count in
-      ap (λ n. ended (refused_for both) n (done levels passed heavy)) same
-      ∙ ap (λ line. Ok (answer_text heavy, line)) (sym err)
-      ∙ ap (λ text. Ok (text, texts.err.items)) (sym out)
+  module _ (texts : RunTexts) (answer : Answer) (out : texts.out.items ≡ answer_text answer.heavy)
+      (err : texts.err.items ≡ refused_for both ++ sealed_line answer.sealed answer.passed answer.levels) (count : answer.sealed ≡ length (batch_for both)) where
+    texts_answered : (ending : Ending) → ending asked (batch_for both) ≡ answer_end answer → Answered (Ok texts) (run_answer ending rules (Ok both))
+    texts_answered ending h =
+        ap (ended (refused_for both) (length (batch_for both))) h
+        ∙ ap (λ n. ended (refused_for both) n (answer_end answer)) (sym count)
+        ∙ ap (λ line. Ok (answer_text answer.heavy, line)) (sym err)
+        ∙ ap (λ text. Ok (text, texts.err.items)) (sym out)
 
-  pub texts_heard : (texts : RunTexts) (levels passed sealed : ℕ) (heavy : List Heavy) (before now : Option Talk) → texts.out.items ≡ answer_text heavy
-      → texts.err.items ≡ refused_for both ++ sealed_line sealed passed levels → sealed ≡ length reports
-      → HeardSo settings reports before now (done levels passed heavy)
-      → IfSome (heard_ending before now) (λ ending. Answered (Ok texts) (run_answer ending rules (Ok both)))
-  texts_heard texts levels passed sealed heavy before now out err count h = at (heard_ending before now) (heard_run before now (done levels passed heavy) h)
-    where
-      at : (o : Option Ending) → IfSome o (λ ending. run_answer ending rules (Ok both) ≡ ended (refused_for both) (length (batch_for both)) (done levels passed heavy))
-          → IfSome o (λ ending. Answered (Ok texts) (run_answer ending rules (Ok both)))
-      at None h = tt
-      at (Some ending) h = h ∙ texts_are texts levels passed sealed heavy out err count
+    texts_heavy : (before after : LinkSeen) → WalkKeeps asked (batch_for both) before after (Ok answer) → IsTrueAndIdle before → FindsHeavy rules both texts
+    texts_heavy before after k ready strings generated =
+        let is = k.honest ready strings generated in (
+          out ∙ ap answer_text is.1,
+          (
+            answer.levels,
+            err ∙ ap (λ n. refused_for both ++ sealed_line n answer.passed answer.levels) count
+                ∙ ap (λ n. refused_for both ++ sealed_line (length (batch_for both)) n answer.levels) is.0,
+          ),
+        )
 
-  pub texts_truly : (texts : RunTexts) (levels passed sealed : ℕ) (heavy : List Heavy) → texts.out.items ≡ answer_text heavy
-      → texts.err.items ≡ refused_for both ++ sealed_line sealed passed levels → sealed ≡ length reports
-      → walk settings reports ≡ done levels passed heavy → Answered (Ok texts) (run_answer walk rules (Ok both))
-  texts_truly texts levels passed sealed heavy out err count h =
-      ends_run walk (done levels passed heavy) h ∙ texts_are texts levels passed sealed heavy out err count
+-- ---- the promise of the run, where the files go together
 
-  pub texts_sent : (texts : RunTexts) (truth0 truth1 : Bool) (before now : Option Talk) (end : End) → HeardSo settings reports before now end
-      → (IsReady truth0 before → IsReady truth1 now × SentMore before now (messages settings reports)) → SentBy rules both truth0 truth1 before now (Ok texts)
-  texts_sent texts truth0 truth1 before now end h truly = whole_here truth0 truth1 before now (whole settings reports truth0 truth1 before now end h truly)
+module _ (zero one : List ℕ) (rules : RunRules) (before after : Sources) (both : Both)
+    (found : IfSome before.shelf.files (λ held. BothGive (Ok both) (begun zero one held)))
+    (kept : after.shelf.files ≡ before.shelf.files) (later : before.shelf.faults ≤ after.shelf.faults) where
+  -- a fact of what the files come to
+  of_both : (P : Result Both RunError → Type 0) → P (Ok both) → IfSome before.shelf.files (λ held. P (begun zero one held))
+  of_both P h = some_map before.shelf.files (λ held. BothGive (Ok both) (begun zero one held)) (λ held. P (begun zero one held)) (λ held is. subst P (sym is) h) found
 
-  pub no_texts_sent : (truth0 truth1 : Bool) (before now : Option Talk) (end : End) → HeardSo settings reports before now end
-      → (IsReady truth0 before → IsReady truth1 now × SentMore before now (messages settings reports)) → SentBy rules both truth0 truth1 before now (Err Memory)
-  no_texts_sent truth0 truth1 before now end h truly =
-      front_here truth0 before now (front settings reports truth0 truth1 before now (whole settings reports truth0 truth1 before now end h truly))
+  pub error_keeps : (e : PairError) → WalkKeeps (settings_for rules both.0.width) (batch_for both) before.link after.link (Err e)
+      → RunKeeps zero one rules before after (Err (Walk e))
+  error_keeps e k = record {
+    kept = kept;
+    shelf = record { later = later; rose = λ h. absurd h };
+    link = record { later = k.later; rose = λ h. k.cause cc };
+    unsent = tt;
+    begins = of_both (λ f. IsOk f) refl;
+    heard = of_both (λ f. IfSome (heard_ending before.link.talk after.link.talk) (λ ending. Answered (Err (Walk e)) (run_answer ending rules f)))
+        (heard_by (settings_for rules both.0.width) (batch_for both) before.link.talk after.link.talk (end_of e) _ k.heard (λ ending. error_answered rules both ending e));
+    sent = of_both (λ f. IfOk f (λ b. SentBy rules b before.link after.link (Err (Walk e)))) (error_sent rules both before.link after.link e k);
+    truly = λ ready. of_both (λ f. Answered (Err (Walk e)) (run_answer walk rules f)) (error_answered rules both walk e
+        (some_map (end_of e) _ (λ end. walk (settings_for rules both.0.width) (batch_for both) ≡ end) (λ end h. h.0) (k.truly ready)));
+    honest = λ ready. of_both (λ f. IfOk f (λ b. IfOk {E = RunError} (Err (Walk e)) (FindsHeavy rules b))) tt;
+    agreed = error_agreed rules both before.link after.link e k;
+  }
 
-  -- ---- frequent strings
+  pub texts_keeps : (texts : RunTexts) (answer : Answer) → texts.out.items ≡ answer_text answer.heavy
+      → texts.err.items ≡ refused_for both ++ sealed_line answer.sealed answer.passed answer.levels
+      → WalkKeeps (settings_for rules both.0.width) (batch_for both) before.link after.link (Ok answer)
+      → RunKeeps zero one rules before after (Ok texts)
+  texts_keeps texts answer out err k = record {
+    kept = kept;
+    shelf = record { later = later; rose = tt };
+    link = record { later = k.later; rose = tt };
+    unsent = tt;
+    begins = of_both (λ f. IsOk f) refl;
+    heard = of_both (λ f. IfSome (heard_ending before.link.talk after.link.talk) (λ ending. Answered (Ok texts) (run_answer ending rules f)))
+        (heard_by (settings_for rules both.0.width) (batch_for both) before.link.talk after.link.talk (Some (answer_end answer)) _ k.heard
+        (λ ending. texts_answered rules both texts answer out err k.sealed ending));
+    sent = of_both (λ f. IfOk f (λ b. SentBy rules b before.link after.link (Ok texts)))
+        (whole (settings_for rules both.0.width) (batch_for both) before.link after.link (answer_end answer) k.heard k.again k.sends);
+    truly = λ ready. of_both (λ f. Answered (Ok texts) (run_answer walk rules f)) (texts_answered rules both texts answer out err k.sealed walk (k.truly ready).0);
+    honest = λ ready. of_both (λ f. IfOk f (λ b. IfOk {E = RunError} (Ok texts) (FindsHeavy rules b)))
+        (texts_heavy rules both texts answer out err k.sealed before.link after.link k ready);
+    agreed = λ ready. tt;
+  }
 
-  pub texts_heavy : (texts : RunTexts) (levels passed sealed : ℕ) (found : List Heavy) → texts.out.items ≡ answer_text found
-      → texts.err.items ≡ refused_for both ++ sealed_line sealed passed levels → sealed ≡ length reports
-      → IsInRange rules → 1 ≤ both.0.width → length both.0.shares < 2 ^ 27
-      → ((strings : List (List Bool)) → IsHonest settings reports strings
-      → (passed ≡ length strings) × (found ≡ heavy settings.bits strings settings.threshold))
-      → FindsHeavy rules both texts
-  texts_heavy texts levels passed sealed found out err count range width few honest strings generated =
-      let here : IsHonest (settings_for rules both.0.width) (batch_for both) strings = record {
-        some_bits = omega (arith, width);
-        some_threshold = range.some_threshold;
-        generated = generated;
-        few = below_modulus (omega (
-          arith,
-          few,
-          as_many (8 * both.0.width) (live_at (settings_for rules both.0.width) (batch_for both) 1) strings generated,
-          live_few (settings_for rules both.0.width) (batch_for both),
-          (size both.0.shares both.1.shares).0,
-        ));
-      } in
-      let there : IsHonest settings reports strings =
-      subst (λ s. IsHonest s reports strings) (sym same_settings) (subst (λ r. IsHonest (settings_for rules both.0.width) r strings) (sym same_reports) here) in
-      let is = honest strings there in
-      let same : length (batch_for both) ≡ sealed = ap (λ (rs : List Report). length rs) (sym same_reports) ∙ sym count in
-      let frequent : found ≡ heavy (8 * both.0.width) strings rules.threshold = is.1 ∙ ap (λ (s : Settings). heavy s.bits strings s.threshold) same_settings in (
-        out ∙ ap answer_text frequent,
-        (
-          levels,
-          err ∙ ap (λ n. refused_for both ++ sealed_line n passed levels) (sym same)
-              ∙ ap (λ n. refused_for both ++ sealed_line (length (batch_for both)) n levels) is.0,
-        ),
-      )
+  pub no_texts_keeps : (answer : Answer) → WalkKeeps (settings_for rules both.0.width) (batch_for both) before.link after.link (Ok answer)
+      → RunKeeps zero one rules before after (Err Memory)
+  no_texts_keeps answer k = record {
+    kept = kept;
+    shelf = record { later = later; rose = λ h. absurd h };
+    link = record { later = k.later; rose = λ h. cc };
+    unsent = tt;
+    begins = of_both (λ f. IsOk f) refl;
+    heard = of_both (λ f. IfSome (heard_ending before.link.talk after.link.talk) (λ ending. Answered (Err Memory) (run_answer ending rules f)))
+        (heard_by (settings_for rules both.0.width) (batch_for both) before.link.talk after.link.talk (Some (answer_end answer)) _ k.heard (λ ending h. inl tt));
+    sent = of_both (λ f. IfOk f (λ b. SentBy rules b before.link after.link (Err Memory)))
+        (front (settings_for rules both.0.width) (batch_for both) before.link after.link
+        (whole (settings_for rules both.0.width) (batch_for both) before.link after.link (answer_end answer) k.heard k.again k.sends));
+    truly = λ ready. of_both (λ f. Answered (Err Memory) (run_answer walk rules f)) (inl tt);
+    honest = λ ready. of_both (λ f. IfOk f (λ b. IfOk {E = RunError} (Err Memory) (FindsHeavy rules b))) tt;
+    agreed = λ ready. tt;
+  }

@@ -68,6 +68,17 @@ IsReadError (Widths zero one) = Unit {0}
 IsReadError (Walk e) = ⊥
 IsReadError Memory = ⊥
 
+-- any error but that of a message that is not the expected one, or of sums that differ
+abbrev pub IsOfTheWalk : RunError → Type 0
+IsOfTheWalk (File side e) = Unit {0}
+IsOfTheWalk (Widths zero one) = Unit {0}
+IsOfTheWalk (Walk (walks.Cap level wanted)) = Unit {0}
+IsOfTheWalk (Walk walks.Link) = Unit {0}
+IsOfTheWalk (Walk (walks.PeerMessage level kind at)) = ⊥
+IsOfTheWalk (Walk (walks.Views level kind place left right)) = ⊥
+IsOfTheWalk (Walk walks.Memory) = Unit {0}
+IsOfTheWalk Memory = Unit {0}
+
 -- the answer is the defined one, or an error of the outside
 abbrev pub Answered : Result RunTexts RunError → Answer → Type 0
 Answered (Ok texts) defined = defined ≡ Ok (texts.out.items, texts.err.items)

@@ -4,3 +4,4 @@ pub mod Answers
 pub mod Readings
 pub mod Hearings
 pub mod Sendings
+pub mod Keeps

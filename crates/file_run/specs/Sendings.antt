@@ -1,10 +1,11 @@
 -- What a run sends.
-use Rattle.std.specs.Prelude.{◌≡◌, Bool, List, ◌++◌, Option, None, Some, Result, Ok, Err}
+use Rattle.std.specs.Prelude.{◌≡◌, List, ◌++◌, Option, None, Some, Result, Ok, Err}
 use Rattle.shelf_io.specs.Talks.{Talk}
 use Rattle.walk_definitions.specs.Reports.{Report}
 use Rattle.walk_definitions.specs.Walk.{Settings}
 use Rattle.walk_definitions.specs.Messages.{messages}
-use Rattle.pair_run.specs.Talking.{IsReady, SentMore, SentPart}
+use Rattle.shelf_io.specs.Seen.{LinkSeen, IsTrueAndIdle}
+use Rattle.pair_run.specs.Talking.{SentMore, SentPart}
 use Rattle.pair_run.specs.declared.answers.PairError.TheVariants.{Cap, Link, PeerMessage, Views, Memory as NoMemory}
 use Rattle.file_run.specs.declared.errors.RunError.{RunError}
 use Rattle.file_run.specs.declared.errors.RunError.TheVariants.{File, Widths, Walk, Memory}
@@ -21,33 +22,27 @@ SentHeard settings reports (Some before) (Some now) = now.sent ≡ before.sent +
 
 -- A walk came to its end: the list sent grew by just the messages of what was heard; on a link that was true and idle by those
 -- of the walk, and the link is true and idle again.
-pub record SentWhole (settings : Settings) (reports : List Report) (truth_before truth_now : Bool) (before now : Option Talk) : Type 0 where
-  pub heard : SentHeard settings reports before now
-  pub truly : IsReady truth_before before → IsReady truth_now now × SentMore before now (messages settings reports)
+pub record SentWhole (settings : Settings) (reports : List Report) (before after : LinkSeen) : Type 0 where
+  pub heard : SentHeard settings reports before.talk after.talk
+  pub truly : IsTrueAndIdle before → IsTrueAndIdle after × SentMore before.talk after.talk (messages settings reports)
 
 -- A walk stopped before its end, or after it for want of memory: on a link that was true and idle the list sent grew by the first
 -- of the walk's messages, or all.
-abbrev pub SentFront : Settings → List Report → Bool → Option Talk → Option Talk → Type 0
-SentFront settings reports truth before now = IsReady truth before → SentPart before now (messages settings reports)
+abbrev pub SentFront : Settings → List Report → LinkSeen → LinkSeen → Type 0
+SentFront settings reports before after = IsTrueAndIdle before → SentPart before.talk after.talk (messages settings reports)
 
 -- what a run sent, by its answer, where the files come to these lists
-abbrev pub SentBy : RunRules → Both → Bool → Bool → Option Talk → Option Talk → Result RunTexts RunError → Type 0
-SentBy rules both truth_before truth_now before now (Ok texts) =
-    SentWhole (settings_for rules both.0.width) (batch_for both) truth_before truth_now before now
-SentBy rules both truth_before truth_now before now (Err (File side e)) = now ≡ before
-SentBy rules both truth_before truth_now before now (Err (Widths zero one)) = now ≡ before
-SentBy rules both truth_before truth_now before now (Err (Walk (Cap level wanted))) =
-    SentWhole (settings_for rules both.0.width) (batch_for both) truth_before truth_now before now
-SentBy rules both truth_before truth_now before now (Err (Walk (PeerMessage level kind at))) =
-    SentWhole (settings_for rules both.0.width) (batch_for both) truth_before truth_now before now
-SentBy rules both truth_before truth_now before now (Err (Walk (Views level kind place left right))) =
-    SentWhole (settings_for rules both.0.width) (batch_for both) truth_before truth_now before now
-SentBy rules both truth_before truth_now before now (Err (Walk Link)) =
-    SentFront (settings_for rules both.0.width) (batch_for both) truth_before before now
-SentBy rules both truth_before truth_now before now (Err (Walk NoMemory)) =
-    SentFront (settings_for rules both.0.width) (batch_for both) truth_before before now
-SentBy rules both truth_before truth_now before now (Err Memory) =
-    SentFront (settings_for rules both.0.width) (batch_for both) truth_before before now
+abbrev pub SentBy : RunRules → Both → LinkSeen → LinkSeen → Result RunTexts RunError → Type 0
+SentBy rules both before after (Ok texts) = SentWhole (settings_for rules both.0.width) (batch_for both) before after
+SentBy rules both before after (Err (File side e)) = after.talk ≡ before.talk
+SentBy rules both before after (Err (Widths zero one)) = after.talk ≡ before.talk
+SentBy rules both before after (Err (Walk (Cap level wanted))) = SentWhole (settings_for rules both.0.width) (batch_for both) before after
+SentBy rules both before after (Err (Walk (PeerMessage level kind at))) = SentWhole (settings_for rules both.0.width) (batch_for both) before after
+SentBy rules both before after (Err (Walk (Views level kind place left right))) =
+    SentWhole (settings_for rules both.0.width) (batch_for both) before after
+SentBy rules both before after (Err (Walk Link)) = SentFront (settings_for rules both.0.width) (batch_for both) before after
+SentBy rules both before after (Err (Walk NoMemory)) = SentFront (settings_for rules both.0.width) (batch_for both) before after
+SentBy rules both before after (Err Memory) = SentFront (settings_for rules both.0.width) (batch_for both) before after
 
 -- what passed on the link is as before where no walk was begun
 abbrev pub IsUnsent : Option Talk → Option Talk → Result RunTexts RunError → Type 0

@@ -1,14 +1,9 @@
 //! A run over two share files, from their names to the texts.
 //! The files are read one after the other; then their reports are walked over the link.
 
-ghost use Rattle.std.specs.Prelude.{◌≡◌, ◌≤◌, IfOk, IfErr, IfSome};
-ghost use Rattle.walk_definitions.specs.Walk.{walk};
-ghost use Rattle.pair_run.specs.Talking.{IsReady};
-ghost use Rattle.file_run.specs.Answers.{run_answer, Answered, Begins, FindsHeavy, HasShelfCause, HasLinkCause};
-ghost use Rattle.file_run.specs.Beginnings.{begun};
-ghost use Rattle.file_run.specs.Hearings.{heard_ending};
+ghost use Rattle.shelf_io.specs.Seen.{sources};
+ghost use Rattle.file_run.specs.Keeps.{RunKeeps};
 ghost use Rattle.file_run.specs.Ranges.{IsInRange};
-ghost use Rattle.file_run.specs.Sendings.{SentBy, IsUnsent};
 
 use crate::errors::RunError;
 use crate::files::read_both;
@@ -20,15 +15,19 @@ use std::alloc::Global;
 use std::sync::Wait;
 use std::thread::Threads;
 
-/// Runs the two share files of these names: side 0's is read whole, then side 1's, and the reports that both hold without clash are
-/// walked over the link.
+/// Runs the two share files of these names: side 0's is read whole, then side 1's, and the reports that both hold without clash
+/// are walked over the link.
 ///
-/// The texts are the frequent strings with their counts, and on err a line for each malformed record, side 0's first, and the line of
-/// the walk's end. The errors, in this order: `File` for side 0's file, then for side 1's; `Widths`; `Walk` for the walk's own errors;
-/// `Memory` for want of memory for the texts. On every told shelf and link the texts and each error but a failed shelf, a failed link
-/// and want of memory are those of what the files hold and of what both sides received in this call. On a link that was true and idle
-/// the walk is the one of the definition, and neither `PeerMessage` nor `Views` comes. Nothing is sent where a file is refused or the
-/// widths differ. The content of the shelf stays.
+/// The texts are the frequent strings with their counts, and on err a line for each malformed record, side 0's first, and the
+/// line of the walk's end. The errors, in this order: `File` for side 0's file, then for side 1's; `Widths`; `Walk` for the
+/// walk's own errors; `Memory` for want of memory for the texts. The promise is `RunKeeps`, between what the shelf and the link
+/// told before and after. The shelf holds what it held (`kept`), a failed shelf or link is named only where its count of faults
+/// rose (`shelf`, `link`), and nothing is sent where a file is refused or the widths differ (`unsent`). On every told shelf the
+/// walk is begun only where the files go together (`begins`), just its messages are sent (`sent`), and where the link tells too,
+/// the texts and each error but a failed shelf, a failed link and want of memory are those of what the files hold and of what
+/// both sides received in this call (`heard`). On a link that was true and idle the walk is the one of the definition (`truly`),
+/// generated reports give exactly the frequent strings (`honest`), and, on every shelf, neither `PeerMessage` nor `Views` comes
+/// (`agreed`).
 pub fn run_files<R: Threads + Wait + Sync, H: Shelf, L: Link, G: Gate>(
     rt: &R,
     alloc: Global,
@@ -40,19 +39,8 @@ pub fn run_files<R: Threads + Wait + Sync, H: Shelf, L: Link, G: Gate>(
     gate: &G,
 ) -> Result<RunTexts, RunError>
     requires rules { IsInRange rules.now }
-    ensures begins { IfSome (H.files shelf.old) (λ held. Begins result (begun zero.now one.now held)) }
-    ensures heard { IfSome (H.files shelf.old) (λ held. IfSome (heard_ending (L.talk link.old) (L.talk link.new)) (λ ending.
-        Answered result (run_answer ending rules.now (begun zero.now one.now held)))) }
-    ensures truly { IsReady (L.is_true link.old) (L.talk link.old)
-        → IfSome (H.files shelf.old) (λ held. Answered result (run_answer walk rules.now (begun zero.now one.now held))) }
-    ensures honest { IsReady (L.is_true link.old) (L.talk link.old) → IfSome (H.files shelf.old) (λ held.
-        IfOk (begun zero.now one.now held) (λ both. IfOk result (FindsHeavy rules.now both))) }
-    ensures sent { IfSome (H.files shelf.old) (λ held. IfOk (begun zero.now one.now held) (λ both.
-        SentBy rules.now both (L.is_true link.old) (L.is_true link.new) (L.talk link.old) (L.talk link.new) result)) }
-    ensures unsent { IsUnsent (L.talk link.old) (L.talk link.new) result }
-    ensures shelf { HasShelfCause (H.faults shelf.old) (H.faults shelf.new) result }
-    ensures link { HasLinkCause (L.faults link.old) (L.faults link.new) result }
-    ensures kept { H.files shelf.new ≡ H.files shelf.old }
+    ensures { RunKeeps zero.now one.now rules.now
+        (sources H.Shelf L.Link shelf.old link.old) (sources H.Shelf L.Link shelf.new link.new) result }
 {
     let (zeros, ones) = match read_both(alloc, shelf, zero, one) {
         Ok(both) => both,

@@ -48,7 +48,7 @@ impl HoldGate {
         self.met.load(Ordering::SeqCst) > 0
     }
 
-    // The first to come waits here for the second.
+    /// The first to come waits here for the second.
     fn come(&self) {
         if self.came.fetch_add(1, Ordering::SeqCst) > 0 {
             return;

@@ -24,7 +24,7 @@ pub fn root(share: &Share, side: Side) -> Node
     }
 }
 
-// A side's element at a child: the child's own, corrected where its bit is set, and negated at side 1.
+/// A side's element at a child: the child's own, corrected where its bit is set, and negated at side 1.
 fn child_value(side: Side, bit: bool, own: u128, correction: Fe) -> Fe
     ensures value { result ≡ child_value side bit own correction }
 {
@@ -86,7 +86,7 @@ pub fn eval<L: Ledger>(share: &Share, side: Side, prefix: &Prefix, steps: &mut S
     node
 }
 
-// The node at a prefix, with a counter of the caller's blank.
+/// The node at a prefix, with a counter of the caller's blank.
 fn eval_on<L: Ledger>(share: &Share, side: Side, prefix: &Prefix, blank: Blank) -> Node
     requires bits { length prefix.now ≤ length share.now.levels }
     requires name { blank.name ≡ L.name }

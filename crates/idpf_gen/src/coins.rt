@@ -56,7 +56,7 @@ impl Model for ClientCoins {
     ghost inverse = { λ c. record { root0 = c.root0; root1 = c.root1; corr0 = c.corr0; corr1 = c.corr1; levels = c.levels } };
 }
 
-// The coins of a level, read with one generator.
+/// The coins of a level, read with one generator.
 fn coins_of_level(seed: &Seed, level: u16) -> LevelCoins
     ensures value { result ≡ level_coins seed.now level }
 {
@@ -67,7 +67,7 @@ fn coins_of_level(seed: &Seed, level: u16) -> LevelCoins
     LevelCoins { k, a0, b0 }
 }
 
-// The coins of the first levels.
+/// The coins of the first levels.
 #[tactic(auto, using(crate::proofs::CoinSteps::coin_steps))]
 fn coins_of_all(alloc: Global, seed: &Seed, bits: u16) -> Result<Vec<LevelCoins>, AllocError>
     ensures value { IfOk result (λ coins. coins.items ≡ coins_of_levels seed.now bits) }

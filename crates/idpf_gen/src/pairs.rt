@@ -21,7 +21,7 @@ use std::alloc::{AllocError, Global};
 use std::marker::Brand;
 use std::sync::ledger::{Blank, Ledger};
 
-// Both sides' parts of the correlation added.
+/// Both sides' parts of the correlation added.
 fn joined(zero: &Triple, one: &Triple) -> Triple
     ensures value { result ≡ triples_added zero.now one.now }
 {
@@ -32,14 +32,14 @@ fn joined(zero: &Triple, one: &Triple) -> Triple
     }
 }
 
-// The number A of both sides together.
+/// The number A of both sides together.
 fn number_a(joint: &Triple, k: Fe) -> Fe
     ensures value { result ≡ correction_a joint.now k }
 {
     Fe::zero().sub(Fe::from_u128(2).mul(joint.a)).add(k)
 }
 
-// The number B of both sides together.
+/// The number B of both sides together.
 fn number_b(joint: &Triple, k: Fe) -> Fe
     ensures value { result ≡ correction_b joint.now k }
 {
@@ -51,7 +51,7 @@ fn number_b(joint: &Triple, k: Fe) -> Fe
         .add(joint.c)
 }
 
-// Both sides' words of a level, and the path after the string's bit.
+/// Both sides' words of a level, and the path after the string's bit.
 fn words_of_level<L: Ledger>(
     path: &Path,
     bit: bool,
@@ -79,7 +79,7 @@ fn words_of_level<L: Ledger>(
     (zero, one, after)
 }
 
-// Both sides' words of all levels.
+/// Both sides' words of all levels.
 fn words_of<L: Ledger>(
     alloc: Global,
     alpha: &Prefix,

@@ -32,7 +32,7 @@ impl Model for Path {
     ghost inverse = { λ p. record { seed0 = p.seed0; bit0 = p.bit0; seed1 = p.seed1; bit1 = p.bit1 } };
 }
 
-// The seed and bit words of a level along the string's bit, from both sides' children.
+/// The seed and bit words of a level along the string's bit, from both sides' children.
 fn word_of(from0: &Children, from1: &Children, bit: bool) -> LevelWord
     ensures seed { result.seed ≡ seed_xor (kept_seed from0.now (not bit)) (kept_seed from1.now (not bit)) }
     ensures left { result.left ≡ bit_xor (bit_xor from0.now.bit_left from1.now.bit_left) (not bit) }
@@ -55,7 +55,7 @@ fn word_of(from0: &Children, from1: &Children, bit: bool) -> LevelWord
     }
 }
 
-// A side's kept child, corrected where its parent's bit is set.
+/// A side's kept child, corrected where its parent's bit is set.
 fn kept_child(from: &Children, word: &LevelWord, set: bool, bit: bool) -> (Seed, bool)
     ensures seed { result.0 ≡ (if set then seed_xor (kept_seed from.now bit) word.now.seed else kept_seed from.now bit) }
     ensures bit { result.1 ≡ (if set then bit_xor (kept_bit from.now bit) (correction_bit word.now bit) else kept_bit from.now bit) }
@@ -72,14 +72,14 @@ fn kept_child(from: &Children, word: &LevelWord, set: bool, bit: bool) -> (Seed,
     }
 }
 
-// An element with the sign of the value word.
+/// An element with the sign of the value word.
 fn value_signed(bit1: bool, x: Fe) -> Fe
     ensures value { result ≡ value_signed bit1 x }
 {
     if bit1 { x.neg() } else { x }
 }
 
-// The corrections of a level, without the numbers of the check, and the path after the string's bit.
+/// The corrections of a level, without the numbers of the check, and the path after the string's bit.
 #[tactic(auto, unfolding(definitions::specs::Generation::value_word, definitions::specs::Generation::path_after), using(crate::proofs::Reduced::reduced))]
 pub(crate) fn level_of<L: Ledger>(
     path: &Path,

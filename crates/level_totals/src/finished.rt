@@ -28,7 +28,7 @@ impl<'a> Model for Finished<'a> {
 }
 
 impl<'a> Finished<'a> {
-    // What a level leaves whose state is this.
+    /// What a level leaves whose state is this.
     pub(crate) fn of(state: PhaseState<'a>) -> Finished<'a>
         ensures { result ≡ state.entry }
     {

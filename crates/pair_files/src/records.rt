@@ -11,8 +11,8 @@ use idpf_eval::Share;
 use share_format::write_record;
 use shelf_io::{Refused, Shelf};
 
-// Appends the record of a share to the bytes of a name, which is to be there. What `record` had is lost. After a refusal a
-// told content is as before.
+/// Appends the record of a share to the bytes of a name, which is to be there. What `record` had is lost. After a refusal a
+/// told content is as before.
 pub(crate) fn append_record<H: Shelf>(
     shelf: &mut H,
     name: &str,

@@ -18,7 +18,7 @@ use share_format::Header;
 use shelf_io::{Refused, Shelf};
 use std::alloc::Global;
 
-// Lets the two names hold the headers of the two sides' files.
+/// Lets the two names hold the headers of the two sides' files.
 fn write_headers<H: Shelf>(
     shelf: &mut H,
     zero_name: &str,

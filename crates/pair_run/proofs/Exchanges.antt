@@ -21,7 +21,8 @@ use Rattle.peer_exchange.proofs.Fronts.{expected_law}
 use Rattle.pair_run.specs.declared.answers.PairError.{PairError}
 use Rattle.pair_run.specs.Failures.{end_of, error_of, Stops}
 use Rattle.pair_run.specs.Parts.{GoesOn, EndsThere, exchange}
-use Rattle.pair_run.specs.Talking.{Passed, IsReady, SentMore, SentPart}
+use Rattle.shelf_io.specs.Seen.{IsReady}
+use Rattle.pair_run.specs.Talking.{Passed, SentMore, SentPart}
 use Rattle.pair_run.proofs.Readings.{taken_before, length-message}
 
 -- ---- after an error of a send

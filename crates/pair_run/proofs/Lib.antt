@@ -7,3 +7,4 @@ pub mod SideNumbers
 pub mod Openings
 pub mod LevelParts
 pub mod WalkSteps
+pub mod Keeping

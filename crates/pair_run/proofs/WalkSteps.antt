@@ -1,15 +1,15 @@
 -- A step of the walk: from a level's result and its pruning to the walk from there on.
-use Rattle.std.proofs.Common.{◌≡◌, ℕ, zero, suc, ◌+◌, ◌-◌, ◌*◌, ◌≤◌, Bool, true, false, List, [], ◌∷◌, ◌++◌, None, Some, length, refl, sym, ◌∙◌, ap, subst, add-one, arith, append-nil}
+use Rattle.std.proofs.Common.{◌≡◌, ℕ, suc, ◌+◌, ◌-◌, ◌*◌, ◌≤◌, Bool, true, false, List, [], ◌∷◌, ◌++◌, None, Some, length, refl, sym, ◌∙◌, ap, subst, add-one, arith, append-nil}
 use Rattle.std.proofs.Common.{inl, inr}
 use Rattle.std.specs.Prelude.{Option, IfSome, map, if◌then◌else◌, nat_le}
 use Rattle.std.proofs.lemmas.Bool.Decides.{eqb_tells}
 use Rattle.shelf_io.specs.Talks.{Talk}
 use Rattle.walk_definitions.specs.Reports.{Report}
-use Rattle.walk_definitions.specs.Walk.{Settings, Heavy, Stage, End, done, capped, peer_message, views, total, survivors, children, live_after, stage_after, live_at, survivors_at, goes_on, stopped, ending}
+use Rattle.walk_definitions.specs.Walk.{Settings, Heavy, Stage, End, done, capped, total, survivors, children, live_after, stage_after, live_at, survivors_at, goes_on, stopped}
 use Rattle.walk_definitions.specs.Messages.{Message, level_messages, messages_at, messages_from}
 use Rattle.walk_definitions.specs.Heard.{Heard, ended, preceded, heard_from}
 use Rattle.walk_definitions.proofs.HeardSteps.{GoesThrough, heard-goes, heard-ends, heard-breaks}
-use Rattle.walk_definitions.proofs.Steps.{stage-more, survivors_at-more, ending-last, ending-more}
+use Rattle.walk_definitions.proofs.Steps.{stage-more, survivors_at-more}
 use Rattle.frontier_walk.specs.Frontiers.{Frontier, first_frontier}
 use Rattle.frontier_walk.specs.Outcomes.{Outcome, further, answered, too_many, following, halted, pruned}
 use Rattle.frontier_walk.proofs.Endings.{ending_after, pruned-ends, further-follows}
@@ -24,8 +24,9 @@ use Rattle.pair_run.specs.Places.{picked}
 use Rattle.pair_run.specs.Steps.{answer_end, IsOutcome, IsStop, StepHeard, StepTrue}
 use Rattle.pair_run.specs.Levels.{stage_of}
 use Rattle.pair_run.specs.Parts.{GoesOn, EndsThere, whole_level}
-use Rattle.pair_run.specs.Talking.{Passed, IsReady, SentMore, SentPart}
-use Rattle.pair_run.specs.Walks.{heard_here, ending_here, messages_here, IsStage, EndsSo, GoesTo, TrulyEnds, TrulyGoes, TrulyFails}
+use Rattle.shelf_io.specs.Seen.{IsReady}
+use Rattle.pair_run.specs.Talking.{Passed, SentMore, SentPart}
+use Rattle.pair_run.specs.Walks.{heard_here, ending_here, messages_here, IsStage, EndsSo, GoesTo, TrulyEnds, TrulyGoes}
 use Rattle.pair_run.proofs.Followed.{passed_map, passed_then, part_first, part_second, part_whole, sent_then}
 
 -- ---- what is heard
@@ -385,38 +386,6 @@ module _ (settings : Settings) (batch : List Report) where
   truly_whole f rs truth t0 t1 o e is h =
       subst (λ f. TrulyEnds settings batch f truth t0 t1 o) e
       (h (subst (λ f. IsStage settings batch f rs) (sym e) (subst (IsStage settings batch (first_frontier settings.bits settings.cap)) (sym is) start)))
-
-  stopped_cases : (level passed : ℕ) (heavy : List Heavy) (l k a x y : ℕ) → ((stopped level passed heavy ≡ peer_message l k a → ⊥) × (stopped level passed heavy ≡ views l k a x y → ⊥))
-  stopped_cases level passed [] l k a x y = (λ e. cc, λ e. cc)
-  stopped_cases level passed (h ∷ hs) l k a x y = (λ e. cc, λ e. cc)
-
-  no_peer : (cap : ℕ) (heavy : ℕ → List Heavy) (passed : ℕ → ℕ) (more level l k a x y : ℕ)
-      → ((ending cap heavy passed more level ≡ peer_message l k a → ⊥) × (ending cap heavy passed more level ≡ views l k a x y → ⊥))
-  no_peer cap heavy passed zero level l k a x y =
-      let last = ending-last cap heavy passed level in
-      (λ e. cc (sym last ∙ e), λ e. cc (sym last ∙ e))
-  no_peer cap heavy passed (suc more) level l k a x y =
-      let rest = no_peer cap heavy passed more (suc level) l k a x y in
-      let stop = stopped_cases level (passed level) (heavy level) l k a x y in
-      let is = ending-more cap heavy passed more level in (
-        λ e. at (goes_on cap (heavy level)) (peer_message l k a) rest.0 stop.0 (sym is ∙ e),
-        λ e. at (goes_on cap (heavy level)) (views l k a x y) rest.1 stop.1 (sym is ∙ e),
-      )
-    where
-      at : (b : Bool) (end : End) → (ending cap heavy passed more (suc level) ≡ end → ⊥) → (stopped level (passed level) (heavy level) ≡ end → ⊥)
-          → (if b then ending cap heavy passed more (suc level) else stopped level (passed level) (heavy level)) ≡ end → ⊥
-      at true end f g e = f e
-      at false end f g e = g e
-
-  pub fails_whole : (truth : Bool) (t0 t1 : Option Talk) (e : PairError) → TrulyEnds settings batch (first_frontier settings.bits settings.cap) truth t0 t1 (end_of e)
-      → TrulyFails settings batch truth t0 t1 e
-  fails_whole truth t0 t1 (Cap level wanted) h = h
-  fails_whole truth t0 t1 Link h = h
-  fails_whole truth t0 t1 (PeerMessage level kind place) h =
-      absurd ((no_peer settings.cap (survivors_at settings batch) (λ level. length (live_at settings batch level)) (settings.bits - 1) 1 level kind place 0 0).0 h.0)
-  fails_whole truth t0 t1 (Views level kind place left right) h =
-      absurd ((no_peer settings.cap (survivors_at settings batch) (λ level. length (live_at settings batch level)) (settings.bits - 1) 1 level kind place left right).1 h.0)
-  fails_whole truth t0 t1 Memory h = h
 
 -- ---- a step, and the walk behind it
 

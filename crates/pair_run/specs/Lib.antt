@@ -9,3 +9,4 @@ pub mod Prunings
 pub mod Levels
 pub mod Walks
 pub mod Steps
+pub mod Keeps

@@ -1,6 +1,6 @@
 -- What passes on a link from one time to another.
-use Rattle.std.specs.Prelude.{◌≡◌, ℕ, Bool, List, ◌++◌, Option, None, Some, take, IsTrue}
-use Rattle.shelf_io.specs.Talks.{Talk, IsIdle}
+use Rattle.std.specs.Prelude.{◌≡◌, ℕ, List, ◌++◌, Option, None, Some, take}
+use Rattle.shelf_io.specs.Talks.{Talk}
 use Rattle.walk_definitions.specs.Messages.{Message}
 
 -- the list sent grew by these messages, and what each side received by these bytes
@@ -15,11 +15,6 @@ Passed None now P = Unit {0}
 Passed (Some before) None P = ⊥
 Passed (Some before) (Some after) P =
     (sent : List Message) × (zero : List ℕ) × (one : List ℕ) × Grew before after sent zero one × P sent zero one
-
--- a link tells that it is true, it tells what passed, and nothing waits
-abbrev pub IsReady : Bool → Option Talk → Type 0
-IsReady truth None = ⊥
-IsReady truth (Some talk) = IsTrue truth × IsIdle talk
 
 -- the list sent grew by just these messages
 abbrev pub SentMore : Option Talk → Option Talk → List Message → Type 0

@@ -2,14 +2,13 @@
 use Rattle.std.specs.Prelude.{◌≡◌, ℕ, suc, ◌-◌, Bool, List, ◌++◌, Option, None, Some, length}
 use Rattle.shelf_io.specs.Talks.{Talk}
 use Rattle.walk_definitions.specs.Reports.{Report}
-use Rattle.walk_definitions.specs.Walk.{Settings, End, done, capped, peer_message, views, ending, walk, stage_after, survivors_at, live_at}
-use Rattle.walk_definitions.specs.Messages.{Message, messages, messages_from, messages_at}
+use Rattle.walk_definitions.specs.Walk.{Settings, End, done, capped, peer_message, views, ending, stage_after, survivors_at, live_at}
+use Rattle.walk_definitions.specs.Messages.{Message, messages_from, messages_at}
 use Rattle.walk_definitions.specs.Heard.{Heard, preceded, heard, heard_from}
 use Rattle.frontier_walk.specs.Frontiers.{Frontier}
-use Rattle.pair_run.specs.declared.answers.PairError.{PairError}
-use Rattle.pair_run.specs.declared.answers.PairError.TheVariants.{Cap, Link, PeerMessage, Views, Memory}
 use Rattle.pair_run.specs.Levels.{stage_of}
-use Rattle.pair_run.specs.Talking.{Passed, IsReady, SentMore, SentPart}
+use Rattle.shelf_io.specs.Seen.{IsReady}
+use Rattle.pair_run.specs.Talking.{Passed, SentMore, SentPart}
 
 -- what is heard from a frontier's level on
 abbrev pub heard_here : Settings → Frontier → List Report → List ℕ → List ℕ → Heard
@@ -60,15 +59,6 @@ pub record TrulyGoes (settings : Settings) (batch : List Report) (frontier next 
 abbrev pub HeardSo : Settings → List Report → Option Talk → Option Talk → End → Type 0
 HeardSo settings batch before now end =
     Passed before now (λ sent got0 got1. heard settings batch got0 got1 ≡ record { end = end; messages = sent })
-
--- on a true link: the walk's cap, with all its messages; where the link failed or memory was short, the first of them; no other error
-abbrev pub TrulyFails : Settings → List Report → Bool → Option Talk → Option Talk → PairError → Type 0
-TrulyFails settings batch truth before now (Cap level wanted) =
-    (walk settings batch ≡ capped level wanted) × IsReady truth now × SentMore before now (messages settings batch)
-TrulyFails settings batch truth before now Link = SentPart before now (messages settings batch)
-TrulyFails settings batch truth before now (PeerMessage level kind at) = ⊥
-TrulyFails settings batch truth before now (Views level kind place left right) = ⊥
-TrulyFails settings batch truth before now Memory = SentPart before now (messages settings batch)
 
 -- the walk ends without a cap
 abbrev pub IsUncapped : End → Type 0

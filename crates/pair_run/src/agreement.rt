@@ -9,7 +9,8 @@ ghost use Rattle.walk_definitions.specs.Heard.{paired, added};
 ghost use Rattle.pair_run.specs.AddedKinds.{added_number};
 ghost use Rattle.pair_run.specs.Failures.{end_of, Stops, IsView, HasPairCause};
 ghost use Rattle.pair_run.specs.Parts.{GoesOn};
-ghost use Rattle.pair_run.specs.Talking.{Passed, IsReady, SentMore, SentPart};
+ghost use Rattle.shelf_io.specs.Seen.{link_seen, IsTrueAndIdle};
+ghost use Rattle.pair_run.specs.Talking.{Passed, SentMore, SentPart};
 
 use crate::additions::added;
 use crate::answers::PairError;
@@ -37,10 +38,10 @@ pub fn agreed_sums<K: Link>(
     ensures goes { IfOk result (λ sums. Passed (K.talk link.old) (K.talk link.new)
         (GoesOn (added (added_number kind) level own0.now own1.now) sums.items)) }
     ensures stops { IfErr result (Stops (added (added_number kind) level own0.now own1.now) (K.talk link.old) (K.talk link.new)) }
-    ensures truly { IfOk result (λ sums. IsReady (K.is_true link.old) (K.talk link.old)
-        → (sums.items ≡ paired add own0.now own1.now) × IsReady (K.is_true link.new) (K.talk link.new)
+    ensures truly { IfOk result (λ sums. IsTrueAndIdle (link_seen K.Link link.old)
+        → (sums.items ≡ paired add own0.now own1.now) × IsTrueAndIdle (link_seen K.Link link.new)
         × SentMore (K.talk link.old) (K.talk link.new) (both_send (added_number kind) level own0.now own1.now)) }
-    ensures partly { IfErr result (λ e. IsReady (K.is_true link.old) (K.talk link.old)
+    ensures partly { IfErr result (λ e. IsTrueAndIdle (link_seen K.Link link.old)
         → (end_of e ≡ None) × SentPart (K.talk link.old) (K.talk link.new) (both_send (added_number kind) level own0.now own1.now)) }
     ensures cause { HasPairCause (K.faults link.old) (K.faults link.new) result }
 {
@@ -50,7 +51,7 @@ pub fn agreed_sums<K: Link>(
     compared(kind, level, sums0, &sums1)
 }
 
-// Side 0's sums, where side 1's are the same.
+/// Side 0's sums, where side 1's are the same.
 fn compared(kind: AddedKind, level: u16, sums0: Vec<Fe>, sums1: &[Fe]) -> Result<Vec<Fe>, PairError>
     requires few { length sums0.items < 2 ^ 27 }
     requires same { length sums0.items ≡ length sums1.now }

@@ -12,7 +12,8 @@ ghost use Rattle.pair_run.specs.Failures.{end_of, Stops, HasPairCause};
 ghost use Rattle.pair_run.specs.Levels.{HaveLevels};
 ghost use Rattle.pair_run.specs.Parts.{GoesOn, checking};
 ghost use Rattle.pair_run.specs.Places.{picked};
-ghost use Rattle.pair_run.specs.Talking.{Passed, IsReady, SentMore, SentPart};
+ghost use Rattle.shelf_io.specs.Seen.{link_seen, IsTrueAndIdle};
+ghost use Rattle.pair_run.specs.Talking.{Passed, SentMore, SentPart};
 
 use crate::agreement::agreed_sums;
 use crate::answers::PairError;
@@ -47,13 +48,13 @@ pub fn check_reports<K: Link>(
     ensures goes { IfOk result (λ passed. Passed (K.talk link.old) (K.talk link.new)
         (GoesOn (checking level (picked batch.now live.now) (opened0.now, opened1.now)) (picked batch.now passed.items))) }
     ensures stops { IfErr result (Stops (checking level (picked batch.now live.now) (opened0.now, opened1.now)) (K.talk link.old) (K.talk link.new)) }
-    ensures truly { IfOk result (λ passed. IsReady (K.is_true link.old) (K.talk link.old)
+    ensures truly { IfOk result (λ passed. IsTrueAndIdle (link_seen K.Link link.old)
         → let sigmas0 = sigmas level Zero (picked batch.now live.now) opened0.now in
         let sigmas1 = sigmas level One (picked batch.now live.now) opened1.now in
         (picked batch.now passed.items ≡ kept (picked batch.now live.now) (paired add sigmas0 sigmas1))
-        × IsReady (K.is_true link.new) (K.talk link.new)
+        × IsTrueAndIdle (link_seen K.Link link.new)
         × SentMore (K.talk link.old) (K.talk link.new) (both_send 2 level sigmas0 sigmas1)) }
-    ensures partly { IfErr result (λ e. IsReady (K.is_true link.old) (K.talk link.old)
+    ensures partly { IfErr result (λ e. IsTrueAndIdle (link_seen K.Link link.old)
         → let sigmas0 = sigmas level Zero (picked batch.now live.now) opened0.now in
         let sigmas1 = sigmas level One (picked batch.now live.now) opened1.now in
         (end_of e ≡ None) × SentPart (K.talk link.old) (K.talk link.new) (both_send 2 level sigmas0 sigmas1)) }
@@ -65,7 +66,7 @@ pub fn check_reports<K: Link>(
     Ok(kept_places(alloc, live, &numbers)?)
 }
 
-// A side's sigmas of a batch's live reports.
+/// A side's sigmas of a batch's live reports.
 fn side_sigmas(
     alloc: Global,
     level: u16,

@@ -1,71 +1,71 @@
-//! The batch of both sides' shares, and its walk.
+//! Both sides' shares, collected by uploaders at once, and the walk of their batch.
 //! Clashes and ids of one side alone are left out before the walk begins.
 
-ghost use Rattle.std.specs.Prelude.{◌≡◌, ◌<◌, ◌≤◌, ◌^◌, List, Bool, length, IfOk, IfErr, IfSome};
+ghost use Rattle.std.specs.Prelude.{◌≡◌, ◌<◌, ◌≤◌, ◌^◌, IfOk, length};
 ghost use Rattle.std.specs.List.{All};
 ghost use Rattle.prefix_bits.specs.declared.TheConstants.{MOST_BITS};
-ghost use Rattle.shelf_io.specs.Faults.{Rose};
 ghost use Rattle.walk_definitions.specs.Reports.{batch};
-ghost use Rattle.walk_definitions.specs.Walk.{done, walk};
-ghost use Rattle.walk_definitions.specs.Heavy.{heavy};
-ghost use Rattle.walk_definitions.specs.Messages.{messages};
-ghost use Rattle.walk_definitions.specs.Laws.{IsHonest};
-ghost use Rattle.pair_run.specs.declared.answers.PairError.TheVariants.{Memory};
-ghost use Rattle.pair_run.specs.Failures.{end_of, HasPairCause};
+ghost use Rattle.shelf_io.specs.Seen.{link_seen};
+ghost use Rattle.pair_run.specs.Keeps.{WalkKeeps};
 ghost use Rattle.pair_run.specs.Ranges.{AreInRange};
 ghost use Rattle.pair_run.specs.Rules.{rules_of};
-ghost use Rattle.pair_run.specs.Talking.{IsReady, SentMore};
-ghost use Rattle.pair_run.specs.Walks.{HeardSo, TrulyFails, IsUncapped};
 
 use crate::answers::{Answer, PairError};
 use crate::settings::WalkSettings;
 use crate::walking::walk;
+use definitions::Side;
 use idpf_eval::Share;
-use report_batch::batch_of;
+use report_batch::Batch;
+use report_collection::Collect;
+use report_collection::laws::a_batch_knows_no_order;
 use shelf_io::{Gate, Link};
-use std::alloc::Global;
+use std::alloc::{AllocError, Global};
 use std::sync::Wait;
 use std::thread::Threads;
 
-/// Walks the batch of both sides' shares over the link, as `walk` does: the reports whose ids have one content on each side,
-/// ascending by id. The uploaders are for the form with threads; this one collects on the caller's thread. The answer and the
-/// errors are those of `walk`; the shares are given up.
+/// Collects both sides' shares, each by so many uploaders at once, side 0's first, and walks their batch over the link, as
+/// `walk` does: the reports whose ids have one content on each side, ascending by id. The gate is told of each upload. The
+/// promise is that of `walk`, over the batch of the two lists (`WalkKeeps`), whatever the uploaders did in between; the shares
+/// are given up. It waits.
 pub fn run_pair<R: Threads + Wait + Sync, K: Link, G: Gate>(
     rt: &R,
     alloc: Global,
     zero: Vec<Share>,
     one: Vec<Share>,
-    _uploaders: u32,
+    uploaders: u32,
     settings: &WalkSettings,
     link: &mut K,
     gate: &G,
 ) -> Result<Answer, PairError>
-    requires uploaders { (1 ≤ _uploaders) × (_uploaders ≤ 64) }
+    requires uploaders { (1 ≤ uploaders) × (uploaders ≤ 64) }
     requires settings { AreInRange MOST_BITS settings.now }
     requires levels0 { All (λ s. length s.levels ≡ settings.now.bits) zero.items }
     requires levels1 { All (λ s. length s.levels ≡ settings.now.bits) one.items }
     requires few0 { length zero.items < 2 ^ 27 }
     requires few1 { length one.items < 2 ^ 31 }
-    ensures sealed { IfOk result (λ answer. answer.sealed ≡ length (batch zero.items one.items)) }
-    ensures lengths { IfOk result (λ answer. All (λ h. length h.prefix ≡ settings.now.bits) answer.heavy) }
-    ensures heard { IfOk result (λ answer. HeardSo (rules_of settings.now) (batch zero.items one.items) (K.talk link.old) (K.talk link.new)
-        (done answer.levels answer.passed answer.heavy)) }
-    ensures heard_otherwise { IfErr result (λ e. IfSome (end_of e)
-        (HeardSo (rules_of settings.now) (batch zero.items one.items) (K.talk link.old) (K.talk link.new))) }
-    ensures truly { IfOk result (λ answer. IsReady (K.is_true link.old) (K.talk link.old)
-        → (walk (rules_of settings.now) (batch zero.items one.items) ≡ done answer.levels answer.passed answer.heavy)
-        × IsReady (K.is_true link.new) (K.talk link.new)
-        × SentMore (K.talk link.old) (K.talk link.new) (messages (rules_of settings.now) (batch zero.items one.items))) }
-    ensures truly_otherwise { IfErr result (λ e. IsReady (K.is_true link.old) (K.talk link.old)
-        → TrulyFails (rules_of settings.now) (batch zero.items one.items) (K.is_true link.new) (K.talk link.old) (K.talk link.new) e) }
-    ensures honest { IfOk result (λ answer. IsReady (K.is_true link.old) (K.talk link.old)
-        → (strings : List (List Bool)) → IsHonest (rules_of settings.now) (batch zero.items one.items) strings
-        → (answer.passed ≡ length strings) × (answer.heavy ≡ heavy settings.now.bits strings settings.now.threshold)) }
-    ensures complete { IfErr result (λ e. IsReady (K.is_true link.old) (K.talk link.old)
-        → (Rose (K.faults link.old) (K.faults link.new) → ⊥) → IsUncapped (walk (rules_of settings.now) (batch zero.items one.items))
-        → e ≡ Memory) }
-    ensures cause { HasPairCause (K.faults link.old) (K.faults link.new) result }
+    ensures { WalkKeeps (rules_of settings.now) (batch zero.items one.items)
+        (link_seen K.Link link.old) (link_seen K.Link link.new) result }
 {
-    let reports = batch_of(alloc, zero, one)?;
+    let reports = collected(rt, alloc, zero, one, uploaders, gate)?;
     walk(rt, alloc, &reports, settings, link, gate)
+}
+
+/// The batch of both lists, which the uploaders of each side upload at once, side 0's first.
+fn collected<R: Threads + Wait + Sync, G: Gate>(
+    rt: &R,
+    alloc: Global,
+    zero: Vec<Share>,
+    one: Vec<Share>,
+    uploaders: u32,
+    gate: &G,
+) -> Result<Batch, AllocError>
+    requires uploaders { (1 ≤ uploaders) × (uploaders ≤ 64) }
+    ensures exact { IfOk result (λ b. b ≡ batch zero.items one.items) }
+{
+    a_batch_knows_no_order();
+    let mut collect = Collect::new(alloc, uploaders)?;
+    collect.add(rt, Side::Zero, zero, gate)?;
+    collect.add(rt, Side::One, one, gate)?;
+    let batch = collect.seal()?;
+    Ok(batch)
 }

@@ -8,7 +8,8 @@ ghost use Rattle.walk_definitions.specs.Messages.{flat, both_send};
 ghost use Rattle.pair_run.specs.AddedKinds.{added_number};
 ghost use Rattle.pair_run.specs.Failures.{end_of, Stops, HasPairCause};
 ghost use Rattle.pair_run.specs.Parts.{GoesOn, exchange};
-ghost use Rattle.pair_run.specs.Talking.{Passed, IsReady, SentMore, SentPart};
+ghost use Rattle.shelf_io.specs.Seen.{link_seen, IsTrueAndIdle};
+ghost use Rattle.pair_run.specs.Talking.{Passed, SentMore, SentPart};
 
 use crate::answers::PairError;
 use crate::kind::AddedKind;
@@ -35,10 +36,10 @@ pub fn exchange_sums<K: Link>(
     ensures goes { IfOk result (λ to. Passed (K.talk link.old) (K.talk link.new)
         (GoesOn (exchange 1 level (flat own0.now) (flat own1.now)) (flat to.0.items, flat to.1.items))) }
     ensures stops { IfErr result (Stops (exchange 1 level (flat own0.now) (flat own1.now)) (K.talk link.old) (K.talk link.new)) }
-    ensures truly { IfOk result (λ to. IsReady (K.is_true link.old) (K.talk link.old)
-        → (to.0.items ≡ own1.now) × (to.1.items ≡ own0.now) × IsReady (K.is_true link.new) (K.talk link.new)
+    ensures truly { IfOk result (λ to. IsTrueAndIdle (link_seen K.Link link.old)
+        → (to.0.items ≡ own1.now) × (to.1.items ≡ own0.now) × IsTrueAndIdle (link_seen K.Link link.new)
         × SentMore (K.talk link.old) (K.talk link.new) (both_send 1 level (flat own0.now) (flat own1.now))) }
-    ensures partly { IfErr result (λ e. IsReady (K.is_true link.old) (K.talk link.old)
+    ensures partly { IfErr result (λ e. IsTrueAndIdle (link_seen K.Link link.old)
         → (end_of e ≡ None) × SentPart (K.talk link.old) (K.talk link.new) (both_send 1 level (flat own0.now) (flat own1.now))) }
     ensures cause { HasPairCause (K.faults link.old) (K.faults link.new) result }
 {
@@ -66,10 +67,10 @@ pub fn exchange_numbers<K: Link>(
     ensures goes { IfOk result (λ to. Passed (K.talk link.old) (K.talk link.new)
         (GoesOn (exchange (added_number kind) level own0.now own1.now) (to.0.items, to.1.items))) }
     ensures stops { IfErr result (Stops (exchange (added_number kind) level own0.now own1.now) (K.talk link.old) (K.talk link.new)) }
-    ensures truly { IfOk result (λ to. IsReady (K.is_true link.old) (K.talk link.old)
-        → (to.0.items ≡ own1.now) × (to.1.items ≡ own0.now) × IsReady (K.is_true link.new) (K.talk link.new)
+    ensures truly { IfOk result (λ to. IsTrueAndIdle (link_seen K.Link link.old)
+        → (to.0.items ≡ own1.now) × (to.1.items ≡ own0.now) × IsTrueAndIdle (link_seen K.Link link.new)
         × SentMore (K.talk link.old) (K.talk link.new) (both_send (added_number kind) level own0.now own1.now)) }
-    ensures partly { IfErr result (λ e. IsReady (K.is_true link.old) (K.talk link.old)
+    ensures partly { IfErr result (λ e. IsTrueAndIdle (link_seen K.Link link.old)
         → (end_of e ≡ None) × SentPart (K.talk link.old) (K.talk link.new) (both_send (added_number kind) level own0.now own1.now)) }
     ensures cause { HasPairCause (K.faults link.old) (K.faults link.new) result }
 {

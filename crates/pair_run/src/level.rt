@@ -10,7 +10,8 @@ ghost use Rattle.pair_run.specs.Levels.{HaveLevels, stage_of};
 ghost use Rattle.pair_run.specs.Parts.{GoesOn, whole_level};
 ghost use Rattle.pair_run.specs.Places.{picked};
 ghost use Rattle.pair_run.specs.Rules.{rules_of};
-ghost use Rattle.pair_run.specs.Talking.{Passed, IsReady, SentMore, SentPart};
+ghost use Rattle.shelf_io.specs.Seen.{link_seen, IsTrueAndIdle};
+ghost use Rattle.pair_run.specs.Talking.{Passed, SentMore, SentPart};
 
 use crate::answers::PairError;
 use crate::checking::check_reports;
@@ -54,13 +55,13 @@ pub fn walk_level<K: Link>(
         (picked batch.now walked.live.items, walked.totals.items))) }
     ensures stops { IfErr result (Stops (whole_level (rules_of settings.now) level candidates.now (picked batch.now live.now))
         (K.talk link.old) (K.talk link.new)) }
-    ensures truly { IfOk result (λ walked. IsReady (K.is_true link.old) (K.talk link.old)
+    ensures truly { IfOk result (λ walked. IsTrueAndIdle (link_seen K.Link link.old)
         → let passed = live_after (rules_of settings.now) level (stage_of (picked batch.now live.now) candidates.now) in
         (picked batch.now walked.live.items ≡ passed) × (walked.totals.items ≡ map (total passed) candidates.now)
-        × IsReady (K.is_true link.new) (K.talk link.new)
+        × IsTrueAndIdle (link_seen K.Link link.new)
         × SentMore (K.talk link.old) (K.talk link.new)
         (level_messages (rules_of settings.now) level (stage_of (picked batch.now live.now) candidates.now))) }
-    ensures partly { IfErr result (λ e. IsReady (K.is_true link.old) (K.talk link.old)
+    ensures partly { IfErr result (λ e. IsTrueAndIdle (link_seen K.Link link.old)
         → (end_of e ≡ None) × SentPart (K.talk link.old) (K.talk link.new)
         (level_messages (rules_of settings.now) level (stage_of (picked batch.now live.now) candidates.now))) }
     ensures cause { HasPairCause (K.faults link.old) (K.faults link.new) result }

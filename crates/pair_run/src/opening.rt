@@ -15,7 +15,8 @@ ghost use Rattle.pair_run.specs.Levels.{HaveLevels};
 ghost use Rattle.pair_run.specs.Parts.{GoesOn, opening};
 ghost use Rattle.pair_run.specs.Places.{picked};
 ghost use Rattle.pair_run.specs.Rules.{rules_of};
-ghost use Rattle.pair_run.specs.Talking.{Passed, IsReady, SentMore, SentPart};
+ghost use Rattle.shelf_io.specs.Seen.{link_seen, IsTrueAndIdle};
+ghost use Rattle.pair_run.specs.Talking.{Passed, SentMore, SentPart};
 
 use crate::additions::opened_sums;
 use crate::answers::PairError;
@@ -49,13 +50,13 @@ pub fn open_sums<K: Link>(
         (GoesOn (opening (rules_of settings.now) level candidates.now (picked batch.now live.now)) (opened.0.items, opened.1.items))) }
     ensures stops { IfErr result (Stops (opening (rules_of settings.now) level candidates.now (picked batch.now live.now))
         (K.talk link.old) (K.talk link.new)) }
-    ensures truly { IfOk result (λ opened. IsReady (K.is_true link.old) (K.talk link.old)
+    ensures truly { IfOk result (λ opened. IsTrueAndIdle (link_seen K.Link link.old)
         → let sums0 = map (own_sums (rules_of settings.now) level candidates.now Zero) (picked batch.now live.now) in
         let sums1 = map (own_sums (rules_of settings.now) level candidates.now One) (picked batch.now live.now) in
         (opened.0.items ≡ paired sums_added sums0 sums1) × (opened.1.items ≡ paired sums_added sums1 sums0)
-        × IsReady (K.is_true link.new) (K.talk link.new)
+        × IsTrueAndIdle (link_seen K.Link link.new)
         × SentMore (K.talk link.old) (K.talk link.new) (both_send 1 level (flat sums0) (flat sums1))) }
-    ensures partly { IfErr result (λ e. IsReady (K.is_true link.old) (K.talk link.old)
+    ensures partly { IfErr result (λ e. IsTrueAndIdle (link_seen K.Link link.old)
         → let sums0 = map (own_sums (rules_of settings.now) level candidates.now Zero) (picked batch.now live.now) in
         let sums1 = map (own_sums (rules_of settings.now) level candidates.now One) (picked batch.now live.now) in
         (end_of e ≡ None) × SentPart (K.talk link.old) (K.talk link.new) (both_send 1 level (flat sums0) (flat sums1))) }
@@ -69,7 +70,7 @@ pub fn open_sums<K: Link>(
     Ok((opened0, opened1))
 }
 
-// A side's own sums of a batch's live reports.
+/// A side's own sums of a batch's live reports.
 fn side_sums(
     alloc: Global,
     settings: &WalkSettings,

@@ -9,7 +9,8 @@ ghost use Rattle.pair_run.specs.Places.{picked};
 ghost use Rattle.pair_run.specs.Rules.{rules_of};
 ghost use Rattle.frontier_walk.specs.Outcomes.{pruned};
 ghost use Rattle.pair_run.specs.Steps.{StepHeard, StepTrue, StepKept, IsOutcome, IsStop};
-ghost use Rattle.pair_run.specs.Talking.{Passed, IsReady};
+ghost use Rattle.shelf_io.specs.Seen.{link_seen, IsTrueAndIdle};
+ghost use Rattle.pair_run.specs.Talking.{Passed};
 ghost use Rattle.pair_run.specs.Walks.{IsStage, EndsSo, TrulyEnds};
 
 use crate::answers::{Answer, PairError};
@@ -50,10 +51,10 @@ pub fn walk_step<K: Link>(
     ensures heard { IfOk result (StepHeard (rules_of settings.now) batch.now frontier live.items (K.talk link.old) (K.talk link.new)) }
     ensures stops { IfErr result (λ e. IfSome (end_of e) (λ end. Passed (K.talk link.old) (K.talk link.new)
         (EndsSo (rules_of settings.now) frontier (picked batch.now live.items) end))) }
-    ensures truly { IfOk result (λ step. IsReady (K.is_true link.old) (K.talk link.old)
+    ensures truly { IfOk result (λ step. IsTrueAndIdle (link_seen K.Link link.old)
         → IsStage (rules_of settings.now) batch.now frontier (picked batch.now live.items)
         → StepTrue (rules_of settings.now) batch.now frontier (K.is_true link.new) (K.talk link.old) (K.talk link.new) step) }
-    ensures partly { IfErr result (λ e. IsReady (K.is_true link.old) (K.talk link.old)
+    ensures partly { IfErr result (λ e. IsTrueAndIdle (link_seen K.Link link.old)
         → IsStage (rules_of settings.now) batch.now frontier (picked batch.now live.items)
         → TrulyEnds (rules_of settings.now) batch.now frontier (K.is_true link.new) (K.talk link.old) (K.talk link.new) (end_of e)) }
     ensures cause { HasPairCause (K.faults link.old) (K.faults link.new) result }
@@ -70,7 +71,7 @@ pub fn walk_step<K: Link>(
     pruned_step(alloc, settings, batch, frontier, walked)
 }
 
-// What a walked level's pruning leaves.
+/// What a walked level's pruning leaves.
 fn pruned_step(
     alloc: Global,
     settings: &WalkSettings,

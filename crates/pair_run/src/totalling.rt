@@ -13,7 +13,8 @@ ghost use Rattle.pair_run.specs.Failures.{end_of, Stops, HasPairCause};
 ghost use Rattle.pair_run.specs.Levels.{HaveLevels};
 ghost use Rattle.pair_run.specs.Parts.{GoesOn, totalling};
 ghost use Rattle.pair_run.specs.Places.{picked};
-ghost use Rattle.pair_run.specs.Talking.{Passed, IsReady, SentMore, SentPart};
+ghost use Rattle.shelf_io.specs.Seen.{link_seen, IsTrueAndIdle};
+ghost use Rattle.pair_run.specs.Talking.{Passed, SentMore, SentPart};
 
 use crate::agreement::agreed_sums;
 use crate::answers::PairError;
@@ -43,12 +44,12 @@ pub fn add_totals<K: Link>(
     ensures goes { IfOk result (λ totals. Passed (K.talk link.old) (K.talk link.new)
         (GoesOn (totalling level candidates.now (picked batch.now passed.now)) totals.items)) }
     ensures stops { IfErr result (Stops (totalling level candidates.now (picked batch.now passed.now)) (K.talk link.old) (K.talk link.new)) }
-    ensures truly { IfOk result (λ totals. IsReady (K.is_true link.old) (K.talk link.old)
+    ensures truly { IfOk result (λ totals. IsTrueAndIdle (link_seen K.Link link.old)
         → let totals0 = map (own_total (picked batch.now passed.now) Zero) candidates.now in
         let totals1 = map (own_total (picked batch.now passed.now) One) candidates.now in
-        (totals.items ≡ paired add totals0 totals1) × IsReady (K.is_true link.new) (K.talk link.new)
+        (totals.items ≡ paired add totals0 totals1) × IsTrueAndIdle (link_seen K.Link link.new)
         × SentMore (K.talk link.old) (K.talk link.new) (both_send 3 level totals0 totals1)) }
-    ensures partly { IfErr result (λ e. IsReady (K.is_true link.old) (K.talk link.old)
+    ensures partly { IfErr result (λ e. IsTrueAndIdle (link_seen K.Link link.old)
         → let totals0 = map (own_total (picked batch.now passed.now) Zero) candidates.now in
         let totals1 = map (own_total (picked batch.now passed.now) One) candidates.now in
         (end_of e ≡ None) × SentPart (K.talk link.old) (K.talk link.new) (both_send 3 level totals0 totals1)) }
@@ -59,7 +60,7 @@ pub fn add_totals<K: Link>(
     agreed_sums(alloc, link, AddedKind::Totals, level, &totals0, &totals1)
 }
 
-// A side's totals over a batch's reports that passed a level.
+/// A side's totals over a batch's reports that passed a level.
 fn side_totals(
     alloc: Global,
     level: u16,

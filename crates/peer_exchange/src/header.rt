@@ -8,7 +8,7 @@ ghost use Rattle.peer_exchange.specs.Kinds.{kind_number};
 use crate::kind::Kind;
 use byteorder::{BigEndian, ByteOrder};
 
-// The header of a message of so many elements.
+/// The header of a message of so many elements.
 pub fn header(kind: Kind, level: u16, count: u32) -> [u8; 7]
     ensures bytes { result ≡ heading (kind_number kind) level count }
 {
@@ -19,7 +19,7 @@ pub fn header(kind: Kind, level: u16, count: u32) -> [u8; 7]
     bytes
 }
 
-// The first offset at which bytes differ from the header, or end.
+/// The first offset at which bytes differ from the header, or end.
 pub fn header_fault(header: &[u8; 7], bytes: &[u8]) -> Option<u32>
     ensures fault { result ≡ heading_fault header.now bytes.now 0 }
     ensures enough { IfNone result (7 ≤ length bytes.now) }

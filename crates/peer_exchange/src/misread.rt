@@ -5,12 +5,12 @@ ghost use Rattle.std.specs.Prelude.{◌≡◌};
 
 use std::alloc::{AllocError, AllocFailed};
 
-// Why bytes were not read as a message.
+/// Why bytes were not read as a message.
 #[derive(Clone, Copy)]
 pub enum Misread {
-    // The first offset at fault.
+    /// The first offset at fault.
     At(u32),
-    // There was no memory.
+    /// There was no memory.
     Memory,
 }
 

@@ -13,7 +13,7 @@ use byteorder::{ByteOrder, LittleEndian};
 use field64::Fe;
 use std::alloc::Global;
 
-// The elements of the message that the bytes are to begin with.
+/// The elements of the message that the bytes are to begin with.
 #[tactic(auto, unfolding(walk_definitions::specs::Messages::taken))]
 pub fn read_message(
     alloc: Global,
@@ -33,7 +33,7 @@ pub fn read_message(
     read_numbers(alloc, count, bytes)
 }
 
-// The elements behind a header.
+/// The elements behind a header.
 fn read_numbers(alloc: Global, count: u32, bytes: &[u8]) -> Result<Vec<Fe>, Misread>
     requires few { 7 + 8 * count < 2 ^ 32 }
     requires header { 7 ≤ length bytes.now }

@@ -10,8 +10,8 @@ ghost use Rattle.peer_exchange.specs.Exchanges.{TakesWithin};
 use definitions::Side;
 use shelf_io::{Link, Refused};
 
-// Fills a slice with the first bytes that wait for a side, and tells how many came: all that wait where the slice has room
-// for them.
+/// Fills a slice with the first bytes that wait for a side, and tells how many came: all that wait where the slice has room
+/// for them.
 pub fn receive_into<K: Link>(link: &mut K, to: Side, into: &mut [u8]) -> Result<usize, Refused>
     ensures within { IfOk result (λ n. n ≤ length into.old) }
     ensures bytes { IfSome (K.talk link.old) (λ before.

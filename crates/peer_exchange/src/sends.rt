@@ -85,7 +85,7 @@ pub fn send_totals<K: Link>(
     send_numbers(alloc, link, from, Kind::Totals, level, totals)
 }
 
-// Sends a message of these elements.
+/// Sends a message of these elements.
 fn send_numbers<K: Link>(
     alloc: Global,
     link: &mut K,

@@ -11,7 +11,7 @@ use byteorder::{ByteOrder, LittleEndian};
 use field64::Fe;
 use std::alloc::{AllocError, Global};
 
-// A whole message of these elements.
+/// A whole message of these elements.
 #[tactic(auto, unfolding(walk_definitions::specs::Messages::message))]
 pub fn spelled_message(
     alloc: Global,

@@ -102,7 +102,7 @@ pub fn take_totals<K: Link>(
     take_numbers(alloc, link, to, Kind::Totals, level, count)
 }
 
-// Takes a message of so many elements.
+/// Takes a message of so many elements.
 fn take_numbers<K: Link>(
     alloc: Global,
     link: &mut K,

@@ -8,7 +8,7 @@ use field64::Fe;
 use sketch_check::Sums;
 use std::alloc::{AllocError, Global};
 
-// The elements of sums.
+/// The elements of sums.
 pub fn elements_of(alloc: Global, sums: &[Sums]) -> Result<Vec<Fe>, AllocError>
     ensures elements { IfOk result (λ numbers. numbers.items ≡ flat sums.now) }
 {
@@ -21,7 +21,7 @@ pub fn elements_of(alloc: Global, sums: &[Sums]) -> Result<Vec<Fe>, AllocError>
     Ok(numbers)
 }
 
-// The sums of so many reports, from their elements.
+/// The sums of so many reports, from their elements.
 pub fn sums_of(alloc: Global, numbers: &[Fe], count: u32) -> Result<Vec<Sums>, AllocError>
     requires threes { length numbers.now ≡ 3 * count }
     ensures count { IfOk result (λ sums. length sums.items ≡ count) }

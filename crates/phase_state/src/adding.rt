@@ -12,7 +12,7 @@ use field64::Fe;
 use sketch_check::{Sums, open};
 use tile_claims::Tile;
 
-// Adds sums place by place.
+/// Adds sums place by place.
 fn add_sums(into: &mut [Sums], part: &[Sums])
     requires same { length into.old ≡ length part.now }
     ensures { into.new ≡ paired sums_added into.old part.now }
@@ -22,7 +22,7 @@ fn add_sums(into: &mut [Sums], part: &[Sums])
     }
 }
 
-// Adds totals place by place.
+/// Adds totals place by place.
 fn add_totals(into: &mut [Fe], part: &[Fe])
     requires same { length into.old ≡ length part.now }
     ensures { into.new ≡ paired add into.old part.now }

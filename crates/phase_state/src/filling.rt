@@ -13,8 +13,8 @@ use idpf_eval::{Share, eval_uncounted};
 use prefix_bits::Prefix;
 use sketch_check::{CoinKey, Sums};
 
-// A share's sums over candidates of which the first stands at the place `first` of the whole list. `drawn` has a place for
-// each candidate, and begins with their coins afterwards.
+/// A share's sums over candidates of which the first stands at the place `first` of the whole list. `drawn` has a place for
+/// each candidate, and begins with their coins afterwards.
 fn share_sums(
     plan: &PhasePlan<'_>,
     share: &Share,
@@ -40,7 +40,7 @@ fn share_sums(
     sums
 }
 
-// The total of live reports at a prefix.
+/// The total of live reports at a prefix.
 fn total_at(plan: &PhasePlan<'_>, live: &[u32], prefix: &Prefix) -> Fe
     requires levels { All (λ s. plan.now.level ≤ length s.levels) plan.now.shares }
     requires bits { length prefix.now ≡ plan.now.level }

@@ -40,7 +40,7 @@ impl Model for PartRoom {
     ghost invariant = { λ r. vec_len r.coins ≤ vec_capacity r.totals };
 }
 
-// The tile that is at least as wide as any other, each way: the first. Without tiles it is empty.
+/// The tile that is at least as wide as any other, each way: the first. Without tiles it is empty.
 fn widest(plan: &TilePlan) -> Tile
     ensures widest { HasRoom plan.now (result.r1 - result.r0) (result.c1 - result.c0) }
     ensures rising { (result.r0 ≤ result.r1) × (result.c0 ≤ result.c1) }

@@ -10,7 +10,7 @@ ghost use Rattle.phase_workers.specs.Crews.{Swept, added_by};
 use level_totals::Finished;
 use phase_state::{PartRoom, PhasePlan, Posted};
 
-// How many tiles the post added.
+/// How many tiles the post added.
 fn added(posted: Posted) -> u32
     ensures { result ≡ added_by posted }
 {

@@ -26,7 +26,7 @@ use std::sync::Wait;
 use std::thread::Threads;
 use tile_claims::{Claims, Drawer};
 
-// Makes the part of a tile, and posts it.
+/// Makes the part of a tile, and posts it.
 fn carry_out<'a, R: Wait>(
     rt: &R,
     level: &Level<'a>,
@@ -51,7 +51,7 @@ fn carry_out<'a, R: Wait>(
     after
 }
 
-// One claimed tile: asks the gate, and carries it out where the gate says so.
+/// One claimed tile: asks the gate, and carries it out where the gate says so.
 fn serve<'t, 'a, G: Asked, R: Wait>(
     rt: &R,
     shared: &Shared<'t, 'a, G>,
@@ -78,7 +78,7 @@ fn serve<'t, 'a, G: Asked, R: Wait>(
     }
 }
 
-// Claims once, and serves what came: whether a tile came.
+/// Claims once, and serves what came: whether a tile came.
 fn once<'t, 'a, G: Asked, R: Wait>(
     rt: &R,
     shared: &Shared<'t, 'a, G>,
@@ -102,7 +102,7 @@ fn once<'t, 'a, G: Asked, R: Wait>(
     (true, serve(rt, shared, pass, room, number, tile))
 }
 
-// Claims until there is no more.
+/// Claims until there is no more.
 fn work<'t, 'a, G: Asked, R: Wait>(
     rt: &R,
     shared: &Shared<'t, 'a, G>,
@@ -145,7 +145,7 @@ impl<'t, 'a, G: Asked> Site<Option<Worker<'a>>> for Shared<'t, 'a, G> {
     }
 }
 
-// All work at once, in threads of their own.
+/// All work at once, in threads of their own.
 fn all_work<'t, 'a, G: Asked + Sync, R: Threads + Wait + Sync>(
     rt: &R,
     shared: &Shared<'t, 'a, G>,

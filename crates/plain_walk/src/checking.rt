@@ -15,7 +15,7 @@ use idpf_eval::{Share, eval_uncounted};
 use prefix_bits::Prefix;
 use sketch_check::{CoinKey, Sums, correlation, masked, open, sigma};
 
-// A share's sums over the candidates, with the coins of a key.
+/// A share's sums over the candidates, with the coins of a key.
 fn partial_sums(key: &CoinKey, level: u16, candidates: &[Prefix], side: Side, share: &Share) -> Sums
     requires few { length candidates.now ≤ 65536 }
     requires long { All (λ q. length q ≤ length share.now.levels) candidates.now }
@@ -29,7 +29,7 @@ fn partial_sums(key: &CoinKey, level: u16, candidates: &[Prefix], side: Side, sh
     sums
 }
 
-// A side's own sums of a report, hidden by its part of the correlation.
+/// A side's own sums of a report, hidden by its part of the correlation.
 fn own_sums(
     settings: &Settings,
     level: u16,
@@ -47,7 +47,7 @@ fn own_sums(
     masked(&partial, &correlation(&share.corr, level))
 }
 
-// A side's sigma of a report, of the opened sums.
+/// A side's sigma of a report, of the opened sums.
 fn own_sigma(level: u16, side: Side, report: &Report, opened: &Sums) -> Fe
     requires first { 1 ≤ level }
     requires last { level ≤ length (held report.now side).levels }

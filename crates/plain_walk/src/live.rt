@@ -23,7 +23,7 @@ pub fn all_alive(alloc: Global, batch: &[Report]) -> Result<Vec<bool>, AllocErro
     vec![in alloc; true; batch.len()]
 }
 
-// A side's value of a report at a prefix, and 0 where the report is not live.
+/// A side's value of a report at a prefix, and 0 where the report is not live.
 fn value_if(alive: bool, report: &Report, side: Side, prefix: &Prefix) -> Fe
     requires bits { length prefix.now ≤ length (held report.now side).levels }
     ensures value { result ≡ (if alive then (node (held report.now side) side prefix.now).d else 0) }
@@ -35,7 +35,7 @@ fn value_if(alive: bool, report: &Report, side: Side, prefix: &Prefix) -> Fe
     }
 }
 
-// A side's total at a prefix, over the live reports.
+/// A side's total at a prefix, over the live reports.
 fn own_total(batch: &[Report], alive: &[bool], side: Side, prefix: &Prefix) -> Fe
     requires flags { length alive.now ≡ length batch.now }
     requires levels { AllReach (length prefix.now) batch.now }
@@ -71,7 +71,7 @@ pub fn totals(
     Ok(sums)
 }
 
-// Whether a report that may be live is so after a level.
+/// Whether a report that may be live is so after a level.
 fn still(
     alive: bool,
     settings: &Settings,

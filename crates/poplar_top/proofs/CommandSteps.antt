@@ -1,85 +1,148 @@
--- What each command leaves alone, and how a command's clauses become those of the top call.
-use Rattle.std.proofs.Common.{◌≡◌, ◌⊎◌, inl, inr, ℕ, ◌*◌, ◌^◌, Bool, true, false, nat_lt, List, Option, None, Some, length, refl, sym, ap, ◌∙◌}
-use Rattle.std.specs.Prelude.{if◌then◌else◌, codes}
+-- How `eval` and `gen` keep their promise, and which command the first word names.
+use Rattle.std.proofs.Common.{◌≡◌, ◌≤◌, ◌⊎◌, inl, inr, ℕ, Bool, true, false, List, Option, None, Some, sym, ap, subst, ◌∙◌, arith}
+use Rattle.std.specs.Prelude.{IfSome, if◌then◌else◌, codes}
 use Rattle.std.specs.Str.{bytes_eq}
 use Rattle.std.specs.FinMap.{get}
+use Rattle.shelf_io.specs.Faults.{Rose}
 use Rattle.shelf_io.specs.Files.{Files}
-use Rattle.share_format.specs.ShareFile.{FileCase, too_long, header_wrong, cut, whole, file_case, records}
-use Rattle.text_strings.specs.Lines.{LinesCase, too_many, line_long, zero_byte, strings, lines_case}
-use Rattle.poplar_top.specs.declared.refusal.Refusal.TheVariants.{LongPrefix, StringsLong}
+use Rattle.shelf_io.specs.Seen.{Outside}
+use Rattle.shelf_io.specs.Texts.{GrewWithin}
 use Rattle.command_words.specs.Settings.{EvalSettings, GenSettings, eval_words, gen_words, word_at}
+use Rattle.poplar_top.specs.declared.stop.Stop.{Stop}
+use Rattle.poplar_top.specs.declared.stop.Stop.TheVariants as stops
 use Rattle.poplar_top.specs.Commands.{command_of, generates, runs, evaluates}
-use Rattle.poplar_top.specs.EvalTexts.{value_lines, refused_lines}
-use Rattle.poplar_top.specs.Outcomes.{Outcome, eval_case, eval_file_outcome, eval_settled, eval_outcome, gen_case, gen_file_outcome, gen_settled, gen_outcome}
-use Rattle.poplar_top.specs.Outcomes.Outcome.{refusal, texts}
-use Rattle.poplar_top.specs.Statuses.{MayStand, OutGets, ShelfGets}
-
--- ---- `gen` leaves out alone
-
-gen_case-out : (settings : GenSettings) (found : LinesCase) (status : ℕ) (taken : Option (List ℕ)) → OutGets (gen_case settings found) status taken taken
-gen_case-out settings (too_many lines) status taken = refl
-gen_case-out settings (line_long line) status taken = refl
-gen_case-out settings (zero_byte line) status taken = refl
-gen_case-out settings (strings them) status taken = refl
-
-gen_file-out : (settings : GenSettings) (found : Option (List ℕ)) (status : ℕ) (taken : Option (List ℕ)) → OutGets (gen_file_outcome settings found) status taken taken
-gen_file-out settings None status taken = refl
-gen_file-out settings (Some bytes) status taken = at (nat_lt (2 ^ 28) (length bytes))
-  where
-    at : (b : Bool) → OutGets (if b then refusal StringsLong else gen_case settings (lines_case settings.width bytes)) status taken taken
-    at true = refl
-    at false = gen_case-out settings (lines_case settings.width bytes) status taken
-
-pub gen_out : (words : List (List ℕ)) (files : Option Files) (status : ℕ) (taken : Option (List ℕ)) → OutGets (gen_outcome words files) status taken taken
-gen_out words files status taken = settled (gen_words words) files
-  where
-    settled : (found : Option GenSettings) (files : Option Files) → OutGets (gen_settled found files) status taken taken
-    settled None files = refl
-    settled (Some settings) None = refl
-    settled (Some settings) (Some held) = gen_file-out settings (get held settings.strings) status taken
-
--- ---- `eval` leaves the shelf alone
-
-eval_case-shelf : (settings : EvalSettings) (bytes : List ℕ) (c : FileCase) (status : ℕ) (before now : Option Files) → now ≡ before
-    → ShelfGets (eval_case settings bytes c) status before now
-eval_case-shelf settings bytes (too_long n) status before now e = e
-eval_case-shelf settings bytes (header_wrong at) status before now e = e
-eval_case-shelf settings bytes (cut at) status before now e = e
-eval_case-shelf settings bytes (whole width) status before now e = at (nat_lt (8 * width) (length settings.prefix))
-  where
-    at : (b : Bool) → ShelfGets (if b then refusal (LongPrefix (length settings.prefix) width)
-        else texts (value_lines settings.side settings.prefix (records width bytes)) (refused_lines settings.side (records width bytes))) status before now
-    at true = e
-    at false = e
-
-pub eval_shelf : (words : List (List ℕ)) (files now : Option Files) (status : ℕ) → now ≡ files → ShelfGets (eval_outcome words files) status files now
-eval_shelf words files now status e = settled (eval_words words) files now e
-  where
-    settled : (found : Option EvalSettings) (files now : Option Files) → now ≡ files → ShelfGets (eval_settled found files) status files now
-    settled None files now e = e
-    settled (Some settings) None now e = e
-    settled (Some settings) (Some held) now e = told (get held settings.file)
-      where
-        told : (found : Option (List ℕ)) → ShelfGets (eval_file_outcome settings found) status (Some held) now
-        told None = e
-        told (Some bytes) = eval_case-shelf settings bytes (file_case settings.side bytes) status (Some held) now e
-
--- ---- one more sink
-
-pub more_sinks : (o : Outcome) (S L K M : Type 0) (status : ℕ) → MayStand o S L K status → MayStand o S L (M ⊎ K) status
-more_sinks o S L K M status (inl own) = inl own
-more_sinks o S L K M status (inr (inl shelf)) = inr (inl shelf)
-more_sinks o S L K M status (inr (inr (inl link))) = inr (inr (inl link))
-more_sinks o S L K M status (inr (inr (inr (inl sink)))) = inr (inr (inr (inl (sink.0, sink.1, inr sink.2))))
-more_sinks o S L K M status (inr (inr (inr (inr memory)))) = inr (inr (inr (inr memory)))
+use Rattle.poplar_top.specs.Keeps.{Meets, KeepsOf}
+use Rattle.pair_files.specs.Made.{zero_text, one_text}
+use Rattle.file_gen.specs.declared.errors.GenError.{GenError}
+use Rattle.file_gen.specs.declared.errors.GenError.TheVariants as gens
+use Rattle.file_gen.specs.Makings.{Makes, StopsAt}
+use Rattle.poplar_top.specs.Outcomes.{eval_file_outcome, eval_told, eval_settled, gen_file_outcome, gen_told, gen_settled}
+use Rattle.poplar_top.specs.Outcomes.Outcome.{texts, writes}
+use Rattle.poplar_top.specs.Statuses.{Prints, ErrGets, OutFirst}
+use Rattle.poplar_top.specs.Stops.{StopFits, IsEvalStop, IsGenStop, gen_stop, stop_status, stop_line}
+use Rattle.poplar_top.proofs.FileSteps.{gen_status, written_shelf}
+use Rattle.poplar_top.proofs.GenSteps.{names_of, pairs_of, files_fit, files_are, stopped_shelf, error_own, error_shelf}
+use Rattle.poplar_top.proofs.KeptSteps.{shelf_kept}
+use Rattle.poplar_top.proofs.MeetSteps.{MayStop, MayPrint, MayMake, Wrote, is_later, still_later, may_stop, may_print, may_make, stop_meets, written_meets, made_meets, stop_other, wrote_other}
+use Rattle.poplar_top.proofs.TopSteps.{eval_status}
 
 -- ---- the first word
 
--- the first word names `run`, where it was compared with `gen` and with `run`
-pub names_run : (words : List (List ℕ)) (is_gen is_run : Bool) → is_gen ≡ bytes_eq (word_at words 0) (codes "gen") → is_run ≡ bytes_eq (word_at words 0) (codes "run")
-    → is_gen ≡ false → is_run ≡ true → command_of words ≡ runs
-names_run words is_gen is_run g r other same =
-    ap (λ b. if b then generates else (if bytes_eq (word_at words 0) (codes "run") then runs else evaluates)) (sym g ∙ other)
-    ∙ ap (λ b. if b then runs else evaluates) (sym r ∙ same)
+-- the first word names `gen`, or neither, where it was compared so
+pub names_gen : (words : List (List ℕ)) (is_gen : Bool) → is_gen ≡ bytes_eq (word_at words 0) (codes "gen") → is_gen ≡ true → command_of words ≡ generates
+names_gen words is_gen g same = ap (λ b. if b then generates else (if bytes_eq (word_at words 0) (codes "run") then runs else evaluates)) (sym g ∙ same)
 
-pub ruleset command_steps = (gen_out, eval_shelf, more_sinks)
+pub names_neither : (words : List (List ℕ)) (is_gen is_run : Bool) → is_gen ≡ bytes_eq (word_at words 0) (codes "gen") → is_run ≡ bytes_eq (word_at words 0) (codes "run")
+    → is_gen ≡ false → is_run ≡ false → command_of words ≡ evaluates
+names_neither words is_gen is_run g r other another =
+    ap (λ b. if b then generates else (if bytes_eq (word_at words 0) (codes "run") then runs else evaluates)) (sym g ∙ other)
+    ∙ ap (λ b. if b then runs else evaluates) (sym r ∙ another)
+
+-- ---- the promise of `eval`
+
+eval_nine : (stop : Stop) → IsEvalStop stop → stop_status stop ≡ 9 → ⊥
+eval_nine (stops.Refusal r) (inl h) e = omega (arith, h, e)
+eval_nine (stops.Refusal r) (inr h) e = omega (arith, h, e)
+eval_nine stops.Shelf h e = omega (arith, e)
+eval_nine stops.Link h e = h
+eval_nine stops.Memory h e = omega (arith, e)
+
+module _ (words : List (List ℕ)) (settings : EvalSettings) (given : Some settings ≡ eval_words words) (before after : Outside) (same : after.link ≡ before.link)
+    (kept : after.shelf.files ≡ before.shelf.files) (shelf_later : before.shelf.faults ≤ after.shelf.faults) (err_later : before.err.faults ≤ after.err.faults) where
+  eval_keeps : (status : ℕ) → Meets (eval_told settings before.shelf.files) false before after status → before.out.faults ≤ after.out.faults
+      → (status ≡ 9 → ⊥) → KeepsOf evaluates words before after status
+  eval_keeps status meets out_later other =
+      let of_words = subst (λ s. Meets (eval_settled s before.shelf.files) false before after status) given meets in record {
+        heard = of_words;
+        sends = same;
+        kept = kept;
+        later = is_later before after same shelf_later out_later err_later;
+        truly = λ ready. of_words;
+        agreed = λ ready. other;
+        finds = λ ready. tt;
+      }
+
+  pub eval_error_keeps : (stop : Stop) → after.out ≡ before.out
+      → IfSome before.shelf.files (λ held. StopFits (eval_file_outcome settings (get held settings.file)) stop)
+      → IsEvalStop stop → (stop ≡ stops.Shelf → Rose before.shelf.faults after.shelf.faults) → GrewWithin before.err.taken after.err.taken (stop_line stop)
+      → KeepsOf evaluates words before after (stop_status stop)
+  eval_error_keeps stop still fits own fault line =
+      let o = eval_told settings before.shelf.files in
+      eval_keeps (stop_status stop)
+      (stop_meets o false before after stop (may before.shelf.files fits) (eval_status settings before.shelf.files stop _ _ _ own fits fault) still line
+      (shelf_kept o (stop_status stop) before.shelf.files after.shelf.files (stop_other stop) kept))
+      (still_later before.out after.out still) (eval_nine stop own)
+    where
+      may : (files : Option Files) → IfSome files (λ held. StopFits (eval_file_outcome settings (get held settings.file)) stop) → MayStop (eval_told settings files) stop
+      may None h = tt
+      may (Some held) h = may_stop (eval_file_outcome settings (get held settings.file)) stop h
+
+  pub eval_texts_keep : (out err : List ℕ) (status : ℕ) → before.out.faults ≤ after.out.faults
+      → IfSome before.shelf.files (λ held. eval_file_outcome settings (get held settings.file) ≡ texts out err)
+      → Wrote status (Rose before.out.faults after.out.faults ⊎ Rose before.err.faults after.err.faults)
+      → Prints before.out.taken after.out.taken out status → ErrGets (texts out err) status before.err.taken after.err.taken
+      → OutFirst (texts out err) status before.out after.out before.err after.err
+      → KeepsOf evaluates words before after status
+  eval_texts_keep out err status out_later written wrote prints tells order =
+      eval_keeps status
+      (written_meets false before after status out err wrote prints tells order kept (eval_told settings before.shelf.files) (may before.shelf.files written))
+      out_later (wrote_other 9 (λ n. omega (arith, n)) (λ n. omega (arith, n)) (λ n. omega (arith, n)) wrote)
+    where
+      may : (files : Option Files) → IfSome files (λ held. eval_file_outcome settings (get held settings.file) ≡ texts out err) → MayPrint (eval_told settings files) out err
+      may None h = tt
+      may (Some held) h = may_print (eval_file_outcome settings (get held settings.file)) out err h
+
+-- ---- the promise of `gen`
+
+gen_nine : (stop : Stop) → IsGenStop stop → stop_status stop ≡ 9 → ⊥
+gen_nine (stops.Refusal r) h e = omega (arith, h, e)
+gen_nine stops.Shelf h e = omega (arith, e)
+gen_nine stops.Link h e = h
+gen_nine stops.Memory h e = omega (arith, e)
+
+module _ (words : List (List ℕ)) (settings : GenSettings) (given : Some settings ≡ gen_words words) (before after : Outside) (same : after.link ≡ before.link)
+    (still : after.out ≡ before.out) (shelf_later : before.shelf.faults ≤ after.shelf.faults) where
+  gen_keeps : (status : ℕ) → Meets (gen_told settings before.shelf.files) false before after status → before.err.faults ≤ after.err.faults
+      → (status ≡ 9 → ⊥) → KeepsOf generates words before after status
+  gen_keeps status meets err_later other =
+      let of_words = subst (λ s. Meets (gen_settled s before.shelf.files) false before after status) given meets in record {
+        heard = of_words;
+        sends = same;
+        kept = tt;
+        later = is_later before after same shelf_later (still_later before.out after.out still) err_later;
+        truly = λ ready. of_words;
+        agreed = λ ready. other;
+        finds = λ ready. tt;
+      }
+
+  pub gen_error_keeps : (e : GenError) → StopsAt (names_of settings) (pairs_of settings) before.shelf.files after.shelf.files e
+      → (e ≡ gens.Shelf → Rose before.shelf.faults after.shelf.faults) → GrewWithin before.err.taken after.err.taken (stop_line (gen_stop e))
+      → before.err.faults ≤ after.err.faults → KeepsOf generates words before after (stop_status (gen_stop e))
+  gen_error_keeps e stopped fault line later =
+      let stop = gen_stop e in
+      let fits = files_fit settings before.shelf.files e stopped.fits in
+      gen_keeps (stop_status stop)
+      (stop_meets (gen_told settings before.shelf.files) false before after stop (may before.shelf.files stop fits)
+      (gen_status settings before.shelf.files stop _ _ _ (error_own e) fits (λ shelf. fault (error_shelf e shelf))) still line
+      (stopped_shelf settings before.shelf.files after.shelf.files (stop_status stop) (stop_other stop) stopped.shelf)) later (gen_nine stop (error_own e))
+    where
+      may : (files : Option Files) (stop : Stop) → IfSome files (λ held. StopFits (gen_file_outcome settings (get held settings.strings)) stop)
+          → MayStop (gen_told settings files) stop
+      may None stop h = tt
+      may (Some held) stop h = may_stop (gen_file_outcome settings (get held settings.strings)) stop h
+
+  pub gen_made_keeps : after.err ≡ before.err → Makes (names_of settings) (pairs_of settings) before.shelf.files after.shelf.files
+      → KeepsOf generates words before after 0
+  gen_made_keeps quiet makes =
+      let zeros = zero_text settings.width settings.master settings.tag makes.them in
+      let ones = one_text settings.width settings.master settings.tag makes.them in
+      let are = files_are settings before.shelf.files makes.them makes.are in
+      gen_keeps 0 (made_meets (gen_told settings before.shelf.files) false before after settings.zero zeros settings.one ones
+      (may before.shelf.files zeros ones are) still quiet (written_shelf settings zeros ones before.shelf.files after.shelf.files are makes.holds))
+      (still_later before.err after.err quiet) (λ e. omega (arith, e))
+    where
+      may : (files : Option Files) (zeros ones : List ℕ)
+          → IfSome files (λ held. gen_file_outcome settings (get held settings.strings) ≡ writes settings.zero zeros settings.one ones)
+          → MayMake (gen_told settings files) settings.zero zeros settings.one ones
+      may None zeros ones h = tt
+      may (Some held) zeros ones h = may_make (gen_file_outcome settings (get held settings.strings)) _ _ _ _ h

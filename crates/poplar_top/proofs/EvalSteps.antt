@@ -1,118 +1,81 @@
--- The texts of `eval` over one more record, and over all of them.
-use Rattle.std.proofs.Common.{◌≡◌, ℕ, zero, suc, ◌+◌, ◌*◌, ◌<◌, ◌≤◌, Bool, List, [], ◌∷◌, ◌++◌, Some, length, take, refl, sym, ◌∙◌, ap, arith, append-nil, append_assoc, length-append, add-one}
-use Rattle.std.specs.Prelude.{slice_get}
-use Rattle.std.specs.List.{flat_map}
-use Rattle.std.proofs.lemmas.List.{take_all}
-use Rattle.std.proofs.lemmas.Option.{slice_get-get_or}
+-- What the answer of `eval` says of its outcome and of its reasons to stop.
+use Rattle.std.proofs.Common.{◌≡◌, inl, inr, Option, None, Some, Ok, Err, ap, refl}
+use Rattle.std.specs.Prelude.{IfSome, IsTrue}
+use Rattle.std.specs.FinMap.{get}
+use Rattle.shelf_io.specs.Files.{Files}
+use Rattle.command_words.specs.Settings.{EvalSettings}
 use Rattle.definitions.specs.declared.Side.{Side}
-use Rattle.share_format.specs.declared.records.Record.{Record}
-use Rattle.share_format.specs.declared.records.Record.TheVariants as given
-use Rattle.share_format.specs.Answers.{answer, record_answer, IsGiven}
-use Rattle.share_format.specs.ShareFile.{RecordCase, well_formed, malformed, shares_of, malformed_from, records, first_records, record_count}
-use Rattle.answer_text.specs.RefusedText.{refused_line}
-use Rattle.poplar_top.specs.EvalTexts.{value_line, value_lines, refused_lines, given_value, given_refusal, IsShort}
+use Rattle.share_format.specs.declared.file_error.FileError.TheVariants as files
+use Rattle.file_eval.specs.declared.errors.EvalError.{EvalError}
+use Rattle.file_eval.specs.declared.errors.EvalError.TheVariants as evals
+use Rattle.file_eval.specs.declared.texts.EvalTexts.{EvalTexts}
+use Rattle.file_eval.specs.Answers.{Answer, eval_answer, Gives}
+use Rattle.poplar_top.specs.declared.stop.Stop.TheVariants as stops
+use Rattle.poplar_top.specs.Outcomes.{eval_refused, eval_answered, eval_file_outcome}
+use Rattle.poplar_top.specs.Outcomes.Outcome.{texts}
+use Rattle.poplar_top.specs.Statuses.{asks_shelf}
+use Rattle.poplar_top.specs.Stops.{StopFits, IsEvalStop, eval_stop}
 
-flat_map-append : {X Y : Type 0} (f : X → List Y) (xs ys : List X) → flat_map f (xs ++ ys) ≡ flat_map f xs ++ flat_map f ys
-flat_map-append f [] ys = refl
-flat_map-append f (x ∷ xs) ys = ap (λ zs. f x ++ zs) (flat_map-append f xs ys) ∙ sym (append_assoc (f x) (flat_map f xs) (flat_map f ys))
+-- the shelf is asked in every `eval`
+refused_asks : (side : Side) (e : EvalError) → IsTrue (asks_shelf (eval_refused side e))
+refused_asks side (evals.File files.Missing) = refl
+refused_asks side (evals.File (files.TooLong n)) = refl
+refused_asks side (evals.File (files.Header at)) = refl
+refused_asks side (evals.File (files.Cut at)) = refl
+refused_asks side (evals.File files.Shelf) = refl
+refused_asks side (evals.File files.Memory) = refl
+refused_asks side (evals.LongPrefix bits width) = refl
+refused_asks side evals.Memory = refl
 
-shares_of-append : (xs ys : List RecordCase) → shares_of (xs ++ ys) ≡ shares_of xs ++ shares_of ys
-shares_of-append [] ys = refl
-shares_of-append (well_formed share ∷ xs) ys = ap (λ ss. share ∷ ss) (shares_of-append xs ys)
-shares_of-append (malformed ∷ xs) ys = shares_of-append xs ys
+pub answer_asks : (side : Side) (a : Answer) → IsTrue (asks_shelf (eval_answered side a))
+answer_asks side (Ok written) = refl
+answer_asks side (Err e) = refused_asks side e
 
-malformed_from-append : (first : ℕ) (xs ys : List RecordCase)
-    → malformed_from first (xs ++ ys) ≡ malformed_from first xs ++ malformed_from (first + length xs) ys
-malformed_from-append first [] ys = let same : first ≡ first + 0 = omega arith in ap (λ n. malformed_from n ys) same
-malformed_from-append first (well_formed share ∷ xs) ys =
-    let same : suc first + length xs ≡ first + suc (length xs) = omega arith in
-    malformed_from-append (suc first) xs ys ∙ ap (λ n. malformed_from (suc first) xs ++ malformed_from n ys) same
-malformed_from-append first (malformed ∷ xs) ys =
-    let same : suc first + length xs ≡ first + suc (length xs) = omega arith in
-    ap (λ ns. first ∷ ns) (malformed_from-append (suc first) xs ys ∙ ap (λ n. malformed_from (suc first) xs ++ malformed_from n ys) same)
+-- an error's reason is the refusal that the answer is
+pub error_fits : (side : Side) (e : EvalError) (a : Answer) → Gives (Err e) a → StopFits (eval_answered side a) (eval_stop side e)
+error_fits side (evals.File files.Missing) a h = ap (eval_answered side) h
+error_fits side (evals.File (files.TooLong n)) a h = ap (eval_answered side) h
+error_fits side (evals.File (files.Header at)) a h = ap (eval_answered side) h
+error_fits side (evals.File (files.Cut at)) a h = ap (eval_answered side) h
+error_fits side (evals.File files.Shelf) a h = tt
+error_fits side (evals.File files.Memory) a h = tt
+error_fits side (evals.LongPrefix bits width) a h = ap (eval_answered side) h
+error_fits side evals.Memory a h = tt
 
--- one more of a list, where there is one
-take-one : {X : Type 0} (k : ℕ) (xs : List X) (x : X) → slice_get xs k ≡ Some x → take (suc k) xs ≡ take k xs ++ x ∷ []
-take-one k [] x e = cc
-take-one zero (y ∷ xs) x e = cc
-take-one (suc k) (y ∷ xs) x e = ap (λ ys. y ∷ ys) (take-one k xs x e)
+pub texts_are : (side : Side) (written : EvalTexts) (a : Answer) → Gives (Ok written) a → eval_answered side a ≡ texts written.out.items written.err.items
+texts_are side written a h = ap (eval_answered side) h
 
-length-take-at : {X : Type 0} (k : ℕ) (xs : List X) (x : X) → slice_get xs k ≡ Some x → length (take k xs) ≡ k
-length-take-at k [] x e = cc
-length-take-at zero (y ∷ xs) x e = refl
-length-take-at (suc k) (y ∷ xs) x e = let rest = length-take-at k xs x e in omega arith
+pub error_own : (side : Side) (e : EvalError) → IsEvalStop (eval_stop side e)
+error_own side (evals.File files.Missing) = inl refl
+error_own side (evals.File (files.TooLong n)) = inl refl
+error_own side (evals.File (files.Header at)) = inl refl
+error_own side (evals.File (files.Cut at)) = inl refl
+error_own side (evals.File files.Shelf) = tt
+error_own side (evals.File files.Memory) = tt
+error_own side (evals.LongPrefix bits width) = inr refl
+error_own side evals.Memory = tt
 
--- ---- one more record
+-- the shelf is named only where the error names it
+pub error_shelf : (side : Side) (e : EvalError) → eval_stop side e ≡ stops.Shelf → e ≡ evals.File files.Shelf
+error_shelf side (evals.File files.Missing) h = cc
+error_shelf side (evals.File (files.TooLong n)) h = cc
+error_shelf side (evals.File (files.Header at)) h = cc
+error_shelf side (evals.File (files.Cut at)) h = cc
+error_shelf side (evals.File files.Shelf) h = refl
+error_shelf side (evals.File files.Memory) h = cc
+error_shelf side (evals.LongPrefix bits width) h = cc
+error_shelf side evals.Memory h = cc
 
-one_value : (side : Side) (prefix : List Bool) (number : ℕ) (c : RecordCase)
-    → flat_map (value_line side prefix) (shares_of (c ∷ [])) ≡ given_value side prefix (answer number (Some c))
-one_value side prefix number (well_formed share) = append-nil (value_line side prefix share)
-one_value side prefix number malformed = refl
+-- ---- where the shelf tells
 
-one_refusal : (side : Side) (number : ℕ) (c : RecordCase)
-    → flat_map (refused_line side) (malformed_from number (c ∷ [])) ≡ given_refusal side (answer number (Some c))
-one_refusal side number (well_formed share) = refl
-one_refusal side number malformed = append-nil (refused_line side number)
+pub files_are : (settings : EvalSettings) (told : Option Files) (written : EvalTexts)
+    → IfSome told (λ held. Gives (Ok written) (eval_answer settings.side settings.prefix (get held settings.file)))
+    → IfSome told (λ held. eval_file_outcome settings (get held settings.file) ≡ texts written.out.items written.err.items)
+files_are settings None written h = tt
+files_are settings (Some held) written h = texts_are settings.side written (eval_answer settings.side settings.prefix (get held settings.file)) h
 
-values-case : (side : Side) (prefix : List Bool) (k : ℕ) (cases : List RecordCase) (c : RecordCase) → slice_get cases k ≡ Some c
-    → value_lines side prefix (take (k + 1) cases) ≡ value_lines side prefix (take k cases) ++ given_value side prefix (record_answer k cases)
-unfolding value_lines
-values-case side prefix k cases c e =
-    ap (λ cs. flat_map (value_line side prefix) (shares_of cs)) (ap (λ n. take n cases) (add-one k) ∙ take-one k cases c e)
-    ∙ ap (flat_map (value_line side prefix)) (shares_of-append (take k cases) (c ∷ []))
-    ∙ flat_map-append (value_line side prefix) (shares_of (take k cases)) (shares_of (c ∷ []))
-    ∙ ap (λ line. flat_map (value_line side prefix) (shares_of (take k cases)) ++ line)
-    (one_value side prefix k c ∙ ap (λ o. given_value side prefix (answer k o)) (sym e))
-
-refusals-case : (side : Side) (k : ℕ) (cases : List RecordCase) (c : RecordCase) → slice_get cases k ≡ Some c
-    → refused_lines side (take (k + 1) cases) ≡ refused_lines side (take k cases) ++ given_refusal side (record_answer k cases)
-unfolding refused_lines
-refusals-case side k cases c e =
-    let at : 0 + length (take k cases) ≡ k = omega (arith, length-take-at k cases c e) in
-    ap (λ cs. flat_map (refused_line side) (malformed_from 0 cs)) (ap (λ n. take n cases) (add-one k) ∙ take-one k cases c e)
-    ∙ ap (flat_map (refused_line side)) (malformed_from-append 0 (take k cases) (c ∷ []))
-    ∙ flat_map-append (refused_line side) (malformed_from 0 (take k cases)) (malformed_from (0 + length (take k cases)) (c ∷ []))
-    ∙ ap (λ n. flat_map (refused_line side) (malformed_from 0 (take k cases)) ++ flat_map (refused_line side) (malformed_from n (c ∷ []))) at
-    ∙ ap (λ line. flat_map (refused_line side) (malformed_from 0 (take k cases)) ++ line)
-    (one_refusal side k c ∙ ap (λ o. given_refusal side (answer k o)) (sym e))
-
--- the texts over one more record are those before and what it adds
-pub values-more : (side : Side) (prefix : List Bool) (k : ℕ) (cases : List RecordCase) → k < length cases
-    → value_lines side prefix (take (k + 1) cases) ≡ value_lines side prefix (take k cases) ++ given_value side prefix (record_answer k cases)
-values-more side prefix k cases h = values-case side prefix k cases _ (slice_get-get_or cases k malformed h)
-
-pub refusals-more : (side : Side) (k : ℕ) (cases : List RecordCase) → k < length cases
-    → refused_lines side (take (k + 1) cases) ≡ refused_lines side (take k cases) ++ given_refusal side (record_answer k cases)
-refusals-more side k cases h = refusals-case side k cases _ (slice_get-get_or cases k malformed h)
-
--- a prefix within the width is not longer than the levels of what is given
-pub short-given : (width number : ℕ) (prefix : List Bool) (r : Record) → length prefix ≤ 8 * width → IsGiven width number r → IsShort prefix r
-short-given width number prefix (given.Share share) h e = omega (arith, h, e)
-short-given width number prefix (given.Malformed told) h e = tt
-short-given width number prefix given.End h e = tt
-
-pub values-none : (side : Side) (prefix : List Bool) (cases : List RecordCase) → value_lines side prefix (take 0 cases) ≡ []
-unfolding value_lines
-values-none side prefix [] = refl
-values-none side prefix (c ∷ cases) = refl
-
-pub refusals-none : (side : Side) (cases : List RecordCase) → refused_lines side (take 0 cases) ≡ []
-unfolding refused_lines
-refusals-none side [] = refl
-refusals-none side (c ∷ cases) = refl
-
--- ---- all records
-
-length-first_records : (width : ℕ) (bytes : List ℕ) (count : ℕ) → length (first_records width bytes count) ≡ count
-unfolding first_records
-length-first_records width bytes zero = refl
-length-first_records width bytes (suc count) =
-    length-append (first_records width bytes count) (_ ∷ []) ∙ (let before = length-first_records width bytes count in omega arith)
-
-pub length-records : (width : ℕ) (bytes : List ℕ) → length (records width bytes) ≡ record_count width bytes
-length-records width bytes = length-first_records width bytes (record_count width bytes)
-
-pub all_records : (width : ℕ) (bytes : List ℕ) (k : ℕ) → record_count width bytes ≡ k → take k (records width bytes) ≡ records width bytes
-all_records width bytes k e = take_all k (records width bytes) (omega (arith, length-records width bytes, e))
-
-pub ruleset text_steps = (values-none, refusals-none)
+pub files_fit : (settings : EvalSettings) (told : Option Files) (e : EvalError)
+    → IfSome told (λ held. Gives (Err e) (eval_answer settings.side settings.prefix (get held settings.file)))
+    → IfSome told (λ held. StopFits (eval_file_outcome settings (get held settings.file)) (eval_stop settings.side e))
+files_fit settings None e h = tt
+files_fit settings (Some held) e h = error_fits settings.side e (eval_answer settings.side settings.prefix (get held settings.file)) h

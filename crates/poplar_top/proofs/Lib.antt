@@ -1,9 +1,9 @@
 pub mod TopSteps
+pub mod KeptSteps
 pub mod EvalSteps
-pub mod ReaderSteps
-pub mod TextSteps
 pub mod GenSteps
 pub mod FileSteps
+pub mod MeetSteps
 pub mod CommandSteps
 pub mod RunSteps
 pub mod RunLaws

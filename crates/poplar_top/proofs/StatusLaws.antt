@@ -7,8 +7,8 @@ use Rattle.poplar_top.specs.declared.walk_refusal.WalkRefusal.TheVariants.{Cap, 
 use Rattle.poplar_top.specs.Outcomes.{Outcome}
 use Rattle.poplar_top.specs.Outcomes.Outcome.{usage, refusal, texts, writes, untold_eval, untold_gen, untold_run, unheard}
 use Rattle.poplar_top.specs.Refusals.{status_of}
-use Rattle.poplar_top.specs.Statuses.{MayStand, IsOwn, is_fault}
-use Rattle.poplar_top.specs.Laws.{IsTold, Stands, UsageIsExact, RefusalsAreExact, AnswersAreComplete, WalkFaultsAreExact}
+use Rattle.poplar_top.specs.Statuses.{MayStand, Stands, IsOwn, asks_shelf, asks_sinks, is_fault}
+use Rattle.poplar_top.specs.Laws.{IsTold, UsageIsExact, RefusalsAreExact, AnswersAreComplete, ShelfFaultsAreExact, WalkFaultsAreExact, SinkFaultsAreExact}
 
 -- a status that no refusal has: an answer's, that of usage, or a fault's
 abbrev pub is_no_refusal : ℕ → Bool
@@ -61,9 +61,9 @@ usage_case S L K status no_link (inr (inr (inr (inr h)))) = inr h
 
 pub usage_law : UsageIsExact
 usage_law = record {
-  only = λ o shelf asked link out err h. usage_only o _ _ _ h;
-  all = λ o shelf link out err status e h.
-      usage_case _ _ _ status (λ rose. cc rose.0) (subst (λ p. Stands p shelf false link out err status) e h);
+  only = λ o asked before after h. usage_only o _ _ _ h;
+  all = λ o before after status e h.
+      usage_case _ _ _ status (λ rose. cc rose.0) (subst (λ p. Stands p false before after status) e h);
 }
 
 -- ---- refusals
@@ -96,8 +96,8 @@ refusal_case r S A L K status (inr (inr (inr (inr h)))) = inr (inr (inr h))
 
 pub refusal_law : RefusalsAreExact
 refusal_law = record {
-  only = λ o shelf asked link out err r told h. refusal_only o _ _ _ r told h;
-  all = λ o shelf asked link out err r status e h. refusal_case r _ _ _ _ status (subst (λ p. Stands p shelf asked link out err status) e h);
+  only = λ o asked before after r told h. refusal_only o _ _ _ r told h;
+  all = λ o asked before after r status e h. refusal_case r _ _ _ _ status (subst (λ p. Stands p asked before after status) e h);
 }
 
 -- ---- answers
@@ -120,11 +120,11 @@ files_case zero_name zero_text one_name one_text S L K status no_shelf no_link (
 
 pub answer_law : AnswersAreComplete
 answer_law = record {
-  texts_written = λ o shelf asked link out err status text lines e no_shelf no_link no_sink h.
-      texts_case text lines _ _ _ status no_shelf (λ rose. no_link rose.1) no_sink (subst (λ p. Stands p shelf asked link out err status) e h);
-  files_written = λ o shelf asked link out err status zero_name zero_text one_name one_text e no_shelf no_link h.
+  texts_written = λ o asked before after status text lines e no_shelf no_link no_sink h.
+      texts_case text lines _ _ _ status no_shelf (λ rose. no_link rose.1) no_sink (subst (λ p. Stands p asked before after status) e h);
+  files_written = λ o asked before after status zero_name zero_text one_name one_text e no_shelf no_link h.
       files_case zero_name zero_text one_name one_text _ _ _ status no_shelf (λ rose. no_link rose.1)
-      (subst (λ p. Stands p shelf asked link out err status) e h);
+      (subst (λ p. Stands p asked before after status) e h);
 }
 
 -- ---- the link
@@ -147,4 +147,48 @@ link_only o S L K (inr (inr (inr (inl h)))) = absurd (omega (arith, h.0))
 link_only o S L K (inr (inr (inr (inr h)))) = absurd (omega (arith, h))
 
 pub link_law : WalkFaultsAreExact
-link_law = record { only = λ o shelf asked link out err h. link_only o _ _ _ h }
+link_law = record { only = λ o asked before after h. link_only o _ _ _ h }
+
+-- ---- the shelf
+
+six_own : (o : Outcome) → IsOwn o 6 → ⊥
+six_own usage h = omega (arith, h)
+six_own (refusal r) h = other r 6 refl (sym h)
+six_own (texts out err) h = omega (arith, h)
+six_own (writes zero_name zero_text one_name one_text) h = omega (arith, h)
+six_own untold_eval h = omega (arith, h)
+six_own untold_gen h = omega (arith, h)
+six_own untold_run h = omega (arith, h)
+six_own unheard h = omega (arith, h)
+
+shelf_only : (o : Outcome) (S L K : Type 0) → MayStand o S L K 6 → IsTrue (asks_shelf o) × S
+shelf_only o S L K (inl own) = absurd (six_own o own)
+shelf_only o S L K (inr (inl h)) = (h.1, h.2)
+shelf_only o S L K (inr (inr (inl h))) = absurd (omega (arith, h.0))
+shelf_only o S L K (inr (inr (inr (inl h)))) = absurd (omega (arith, h.0))
+shelf_only o S L K (inr (inr (inr (inr h)))) = absurd (omega (arith, h))
+
+pub shelf_law : ShelfFaultsAreExact
+shelf_law = record { only = λ o asked before after h. shelf_only o _ _ _ h }
+
+-- ---- the sinks
+
+ten_own : (o : Outcome) → IsOwn o 10 → ⊥
+ten_own usage h = omega (arith, h)
+ten_own (refusal r) h = other r 10 refl (sym h)
+ten_own (texts out err) h = omega (arith, h)
+ten_own (writes zero_name zero_text one_name one_text) h = omega (arith, h)
+ten_own untold_eval h = omega (arith, h)
+ten_own untold_gen h = omega (arith, h)
+ten_own untold_run h = omega (arith, h)
+ten_own unheard h = omega (arith, h)
+
+sink_only : (o : Outcome) (S L K : Type 0) → MayStand o S L K 10 → IsTrue (asks_sinks o) × K
+sink_only o S L K (inl own) = absurd (ten_own o own)
+sink_only o S L K (inr (inl h)) = absurd (omega (arith, h.0))
+sink_only o S L K (inr (inr (inl h))) = absurd (omega (arith, h.0))
+sink_only o S L K (inr (inr (inr (inl h)))) = (h.1, h.2)
+sink_only o S L K (inr (inr (inr (inr h)))) = absurd (omega (arith, h))
+
+pub sink_law : SinkFaultsAreExact
+sink_law = record { only = λ o asked before after h. sink_only o _ _ _ h }

@@ -1,8 +1,12 @@
 -- What the top call cites.
-use Rattle.std.proofs.Common.{◌≡◌, ◌⊎◌, inl, inr, ℕ, ◌*◌, ◌++◌, Bool, true, false, nat_lt, List, [], ◌∷◌, Option, None, Some, length, take, refl, sym, subst, ap, ◌∙◌, arith, append-nil}
-use Rattle.std.specs.Prelude.{IfSome, IsTrue, if◌then◌else◌}
+use Rattle.std.proofs.Common.{◌≡◌, ◌⊎◌, inl, inr, ℕ, ◌++◌, List, [], ◌∷◌, Option, None, Some, length, take, refl, sym, subst, ap, ◌∙◌, arith, append-nil}
+use Rattle.std.specs.Prelude.{IfSome, IsTrue}
 use Rattle.std.specs.FinMap.{get}
+use Rattle.shelf_io.specs.Faults.{Rose}
 use Rattle.shelf_io.specs.Files.{Files}
+use Rattle.shelf_io.specs.Seen.{SinkSeen}
+use Rattle.shelf_io.specs.declared.refused.Refused.{Refused}
+use Rattle.shelf_io.specs.declared.refused.Refused.TheVariants.{Failed, Memory}
 use Rattle.shelf_io.specs.Texts.{Grew, GrewWithin}
 use Rattle.std.proofs.lemmas.List.{take_all}
 use Rattle.shelf_io.proofs.TextLaws.{grew_twice, within_of_grew}
@@ -11,14 +15,15 @@ use Rattle.poplar_top.specs.declared.refusal.Refusal.TheVariants.{Missing, TooLo
 use Rattle.poplar_top.specs.declared.walk_refusal.WalkRefusal.TheVariants.{Cap, PeerMessage, Views}
 use Rattle.poplar_top.specs.declared.stop.Stop.{Stop}
 use Rattle.poplar_top.specs.declared.stop.Stop.TheVariants as stops
-use Rattle.command_words.specs.Settings.{EvalSettings, GenSettings}
-use Rattle.poplar_top.specs.Outcomes.{Outcome, eval_case, eval_file_outcome, eval_told, gen_file_outcome, gen_told}
+use Rattle.command_words.specs.Settings.{EvalSettings}
+use Rattle.poplar_top.specs.Outcomes.{Outcome, eval_file_outcome, eval_told}
 use Rattle.poplar_top.specs.Outcomes.Outcome.{usage, refusal, texts, writes, untold_eval, untold_gen, untold_run, unheard}
-use Rattle.poplar_top.specs.Statuses.{Prints, ErrGets, MayStand, asks_shelf, fault_line}
-use Rattle.share_format.specs.ShareFile.{FileCase, too_long, header_wrong, cut, whole, file_case, records}
-use Rattle.poplar_top.specs.EvalTexts.{value_lines, refused_lines}
+use Rattle.poplar_top.specs.Statuses.{Prints, TellsUntold, TellsMade, ErrGets, OutFirst, MayStand, asks_shelf, fault_line}
+use Rattle.file_eval.specs.Answers.{eval_answer}
+use Rattle.poplar_top.proofs.EvalSteps.{answer_asks}
 use Rattle.poplar_top.specs.Refusals.{status_of}
-use Rattle.poplar_top.specs.Stops.{StopFits, IsEvalStop, stop_status, stop_line}
+use Rattle.poplar_top.specs.Stops.{StopFits, IsEvalStop, stop_status, stop_line, sink_status}
+use Rattle.poplar_top.proofs.StatusLaws.{is_no_refusal, refusal_status}
 
 none_taken : (xs ys : List ℕ) → take 0 xs ++ ys ≡ ys
 none_taken [] ys = refl
@@ -77,6 +82,67 @@ fault_within out err status before mid now is first second = record {
     zero (inl a) e = omega (arith, a, e)
     zero (inr a) e = omega (arith, a, e)
 
+-- ---- err at an outcome that is not told
+
+-- a refusal's status is no fault's
+no_fault : (r : Refusal) (n : ℕ) → IsTrue (is_no_refusal n) → status_of r ≡ n → ⊥
+no_fault r n is e = refusal_status r (subst (λ m. IsTrue (is_no_refusal m)) (sym e) is)
+
+six_or_seven : (r : Refusal) → (status_of r ≡ 6) ⊎ (status_of r ≡ 7) → ⊥
+six_or_seven r (inl e) = no_fault r 6 refl e
+six_or_seven r (inr e) = no_fault r 7 refl e
+
+eight_or_ten : (r : Refusal) → (status_of r ≡ 8) ⊎ (status_of r ≡ 10) → ⊥
+eight_or_ten r (inl e) = no_fault r 8 refl e
+eight_or_ten r (inr e) = no_fault r 10 refl e
+
+six_or_eight : (r : Refusal) → (status_of r ≡ 6) ⊎ (status_of r ≡ 8) → ⊥
+six_or_eight r (inl e) = no_fault r 6 refl e
+six_or_eight r (inr e) = no_fault r 8 refl e
+
+-- a number is neither of two others
+pub neither : (n a b : ℕ) → (n ≡ a → ⊥) → (n ≡ b → ⊥) → (n ≡ a) ⊎ (n ≡ b) → ⊥
+neither n a b first second (inl e) = first e
+neither n a b first second (inr e) = second e
+
+-- a reason's line, where texts are not told
+pub untold_line : (stop : Stop) (before now : Option (List ℕ)) → GrewWithin before now (stop_line stop) → TellsUntold before now (stop_status stop)
+untold_line (stops.Refusal r) before now h = record {
+  refused = λ _ _. (r, refl, h);
+  fault = λ is. absurd (six_or_seven r is);
+  behind = λ is. absurd (eight_or_ten r is);
+}
+untold_line stops.Shelf before now h = record {
+  refused = λ _ none. absurd (cc none);
+  fault = λ _. h;
+  behind = λ is. absurd (neither 6 8 10 (λ e. omega (arith, e)) (λ e. omega (arith, e)) is);
+}
+untold_line stops.Link before now h = record {
+  refused = λ _ none. absurd (cc none);
+  fault = λ _. h;
+  behind = λ is. absurd (neither 7 8 10 (λ e. omega (arith, e)) (λ e. omega (arith, e)) is);
+}
+untold_line stops.Memory before now h = record {
+  refused = λ _ none. absurd (cc none);
+  fault = λ is. absurd (neither 8 6 7 (λ e. omega (arith, e)) (λ e. omega (arith, e)) is);
+  behind = λ _. ([], h.0, h.2);
+}
+
+-- the same where files are not told
+pub made_line : (stop : Stop) (before now : Option (List ℕ)) → GrewWithin before now (stop_line stop) → TellsMade before now (stop_status stop)
+made_line (stops.Refusal r) before now h = record {
+  whole = λ e. absurd (no_fault r 0 refl e);
+  refused = λ _ _. (r, refl, h);
+  fault = λ is. absurd (six_or_eight r is);
+}
+made_line stops.Shelf before now h = record { whole = λ e. absurd (omega (arith, e)); refused = λ _ none. absurd (cc none); fault = λ _. h }
+made_line stops.Link before now h = record {
+  whole = λ e. absurd (omega (arith, e));
+  refused = λ _ none. absurd (cc none);
+  fault = λ is. absurd (neither 7 6 8 (λ e. omega (arith, e)) (λ e. omega (arith, e)) is);
+}
+made_line stops.Memory before now h = record { whole = λ e. absurd (omega (arith, e)); refused = λ _ none. absurd (cc none); fault = λ _. h }
+
 refusal_line : (r : Refusal) (before now : Option (List ℕ)) → GrewWithin before now (stop_line (stops.Refusal r)) → ErrGets (refusal r) (stop_status (stops.Refusal r)) before now
 refusal_line (Missing side) before now h = h
 refusal_line (TooLong side) before now h = h
@@ -99,30 +165,30 @@ shelf_line usage before now h = h
 shelf_line (refusal r) before now h = h
 shelf_line (texts out err) before now h = fault_first out err 6 before now (λ e. omega (arith, e)) h
 shelf_line (writes zero_name zero_text one_name one_text) before now h = ((λ e. absurd (omega (arith, e))), h)
-shelf_line untold_eval before now h = tt
-shelf_line untold_gen before now h = tt
-shelf_line untold_run before now h = tt
-shelf_line unheard before now h = tt
+shelf_line untold_eval before now h = untold_line stops.Shelf before now h
+shelf_line untold_gen before now h = made_line stops.Shelf before now h
+shelf_line untold_run before now h = untold_line stops.Shelf before now h
+shelf_line unheard before now h = untold_line stops.Shelf before now h
 
 link_line : (o : Outcome) (before now : Option (List ℕ)) → GrewWithin before now (fault_line 7) → ErrGets o 7 before now
 link_line usage before now h = h
 link_line (refusal r) before now h = h
 link_line (texts out err) before now h = fault_first out err 7 before now (λ e. omega (arith, e)) h
 link_line (writes zero_name zero_text one_name one_text) before now h = ((λ e. absurd (omega (arith, e))), h)
-link_line untold_eval before now h = tt
-link_line untold_gen before now h = tt
-link_line untold_run before now h = tt
-link_line unheard before now h = tt
+link_line untold_eval before now h = untold_line stops.Link before now h
+link_line untold_gen before now h = made_line stops.Link before now h
+link_line untold_run before now h = untold_line stops.Link before now h
+link_line unheard before now h = untold_line stops.Link before now h
 
 memory_line : (o : Outcome) (before now : Option (List ℕ)) → GrewWithin before now (fault_line 8) → ErrGets o 8 before now
 memory_line usage before now h = h
 memory_line (refusal r) before now h = h
 memory_line (texts out err) before now h = fault_first out err 8 before now (λ e. omega (arith, e)) h
 memory_line (writes zero_name zero_text one_name one_text) before now h = ((λ e. absurd (omega (arith, e))), h)
-memory_line untold_eval before now h = tt
-memory_line untold_gen before now h = tt
-memory_line untold_run before now h = tt
-memory_line unheard before now h = tt
+memory_line untold_eval before now h = untold_line stops.Memory before now h
+memory_line untold_gen before now h = made_line stops.Memory before now h
+memory_line untold_run before now h = untold_line stops.Memory before now h
+memory_line unheard before now h = untold_line stops.Memory before now h
 
 -- what a command tells that has no text, where its reason fits the outcome
 pub stop_lines : (o : Outcome) (stop : Stop) (before now : Option (List ℕ)) → StopFits o stop → GrewWithin before now (stop_line stop) → ErrGets o (stop_status stop) before now
@@ -130,18 +196,6 @@ stop_lines o (stops.Refusal r) before now fits h = subst (λ p. ErrGets p (stop_
 stop_lines o stops.Shelf before now fits h = shelf_line o before now h
 stop_lines o stops.Link before now fits h = link_line o before now h
 stop_lines o stops.Memory before now fits h = memory_line o before now h
-
-pub eval_stop : (settings : EvalSettings) (files : Option Files) (stop : Stop) (before now : Option (List ℕ))
-    → IfSome files (λ held. StopFits (eval_file_outcome settings (get held settings.file)) stop) → GrewWithin before now (stop_line stop)
-    → ErrGets (eval_told settings files) (stop_status stop) before now
-eval_stop settings None stop before now fits h = tt
-eval_stop settings (Some held) stop before now fits h = stop_lines (eval_file_outcome settings (get held settings.file)) stop before now fits h
-
-pub gen_stop : (settings : GenSettings) (files : Option Files) (stop : Stop) (before now : Option (List ℕ))
-    → IfSome files (λ held. StopFits (gen_file_outcome settings (get held settings.strings)) stop) → GrewWithin before now (stop_line stop)
-    → ErrGets (gen_told settings files) (stop_status stop) before now
-gen_stop settings None stop before now fits h = tt
-gen_stop settings (Some held) stop before now fits h = stop_lines (gen_file_outcome settings (get held settings.strings)) stop before now fits h
 
 -- ---- statuses
 
@@ -155,21 +209,6 @@ fault_status o stops.Shelf S L K asks fits shelf link = inr (inl (refl, asks, sh
 fault_status o stops.Link S L K asks fits shelf link = inr (inr (inl (refl, link refl)))
 fault_status o stops.Memory S L K asks fits shelf link = inr (inr (inr (inr refl)))
 
-eval_asks : (settings : EvalSettings) (bytes : List ℕ) (c : FileCase) → IsTrue (asks_shelf (eval_case settings bytes c))
-eval_asks settings bytes (too_long n) = refl
-eval_asks settings bytes (header_wrong at) = refl
-eval_asks settings bytes (cut at) = refl
-eval_asks settings bytes (whole width) = at (nat_lt (8 * width) (length settings.prefix))
-  where
-    at : (b : Bool) → IsTrue (asks_shelf (if b then refusal (LongPrefix (length settings.prefix) width)
-        else texts (value_lines settings.side settings.prefix (records width bytes)) (refused_lines settings.side (records width bytes))))
-    at true = refl
-    at false = refl
-
-file_asks : (settings : EvalSettings) (found : Option (List ℕ)) → IsTrue (asks_shelf (eval_file_outcome settings found))
-file_asks settings None = refl
-file_asks settings (Some bytes) = eval_asks settings bytes (file_case settings.side bytes)
-
 untold_status : (stop : Stop) (S L K : Type 0) → IsEvalStop stop → (stop ≡ stops.Shelf → S) → MayStand untold_eval S L K (stop_status stop)
 untold_status (stops.Refusal r) S L K own rose = inl (inr own)
 untold_status stops.Shelf S L K own rose = inr (inl (refl, refl, rose refl))
@@ -182,5 +221,65 @@ pub eval_status : (settings : EvalSettings) (files : Option Files) (stop : Stop)
     → MayStand (eval_told settings files) S L K (stop_status stop)
 eval_status settings None stop S L K own fits rose = untold_status stop S L K own rose
 eval_status settings (Some held) stop S L K own fits rose =
-    fault_status (eval_file_outcome settings (get held settings.file)) stop S L K (file_asks settings (get held settings.file)) fits rose
+    fault_status (eval_file_outcome settings (get held settings.file)) stop S L K (answer_asks settings.side (eval_answer settings.side settings.prefix (get held settings.file))) fits rose
     (λ link. absurd (subst IsEvalStop link own))
+
+-- ---- out before err
+
+-- a reason's line is no line of err's text
+pub stop_order : (o : Outcome) (stop : Stop) (out0 out1 err0 err1 : SinkSeen) → StopFits o stop → GrewWithin err0.taken err1.taken (stop_line stop)
+    → OutFirst o (stop_status stop) out0 out1 err0 err1
+stop_order usage stop out0 out1 err0 err1 fits h = tt
+stop_order (refusal r) stop out0 out1 err0 err1 fits h = tt
+stop_order (texts out err) (stops.Refusal r) out0 out1 err0 err1 fits h = absurd cc
+stop_order (texts out err) stops.Shelf out0 out1 err0 err1 fits h = record {
+  lines = (0, h.0, subst (Grew err0.taken err1.taken) (sym (none_taken err _)) h.2, inl refl);
+  sink = λ ten. absurd (omega (arith, ten));
+}
+stop_order (texts out err) stops.Link out0 out1 err0 err1 fits h = record {
+  lines = (0, h.0, subst (Grew err0.taken err1.taken) (sym (none_taken err _)) h.2, inl refl);
+  sink = λ ten. absurd (omega (arith, ten));
+}
+stop_order (texts out err) stops.Memory out0 out1 err0 err1 fits h = record {
+  lines = (0, h.0, subst (Grew err0.taken err1.taken) (sym (none_taken err _)) h.2, inl refl);
+  sink = λ ten. absurd (omega (arith, ten));
+}
+stop_order (writes zero_name zero_text one_name one_text) stop out0 out1 err0 err1 fits h = tt
+stop_order untold_eval stop out0 out1 err0 err1 fits h = tt
+stop_order untold_gen stop out0 out1 err0 err1 fits h = tt
+stop_order untold_run stop out0 out1 err0 err1 fits h = tt
+stop_order unheard stop out0 out1 err0 err1 fits h = tt
+
+-- out's whole text was written before err's, of which a front was taken
+pub order_within : (out err : List ℕ) (status : ℕ) (out0 out1 before now : SinkSeen) (mid : Option (List ℕ)) → Grew out0.taken out1.taken out
+    → GrewWithin before.taken mid err → GrewWithin mid now.taken (fault_line status) → OutFirst (texts out err) status out0 out1 before now
+order_within out err status out0 out1 before now mid all first second = record {
+  lines = (
+    first.0,
+    second.0,
+    grew_twice before.taken mid now.taken (take first.0 err) (take second.0 (fault_line status)) first.2 second.2,
+    inr all,
+  );
+  sink = λ _. inr all;
+}
+
+-- only a front of the fault's line was taken, where out failed or memory was short
+pub order_first : (out err : List ℕ) (status : ℕ) (out0 out1 before now : SinkSeen) (refused : Refused) → status ≡ sink_status refused
+    → (refused ≡ Failed → Rose out0.faults out1.faults) → GrewWithin before.taken now.taken (fault_line status)
+    → OutFirst (texts out err) status out0 out1 before now
+order_first out err status out0 out1 before now refused is rose h = record {
+  lines = (0, h.0, subst (Grew before.taken now.taken) (sym (none_taken err (take h.0 (fault_line status)))) h.2, inl refl);
+  sink = λ ten. inl (failed refused is rose ten);
+}
+  where
+    failed : (refused : Refused) → status ≡ sink_status refused → (refused ≡ Failed → Rose out0.faults out1.faults) → status ≡ 10
+        → Rose out0.faults out1.faults
+    failed Failed is rose ten = rose refl
+    failed Memory is rose ten = absurd (omega (arith, is, ten))
+
+-- both texts were written
+pub order_whole : (out err : List ℕ) (out0 out1 before now : SinkSeen) → Grew out0.taken out1.taken out → Grew before.taken now.taken err
+    → OutFirst (texts out err) 0 out0 out1 before now
+order_whole out err out0 out1 before now all h =
+    let lines = (err_whole out err before.taken now.taken h).front in
+    record { lines = (lines.0, lines.1, lines.2, inr all); sink = λ _. inr all }

@@ -3,14 +3,13 @@ use Rattle.std.specs.Prelude.{◌≡◌, ℕ, Bool, false, List, Option, codes}
 use Rattle.std.specs.Bool.{if◌then◌else◌}
 use Rattle.std.specs.Str.{bytes_eq}
 use Rattle.shelf_io.specs.Files.{Files}
-use Rattle.shelf_io.specs.Talks.{Talk}
+use Rattle.shelf_io.specs.Seen.{LinkSeen, Outside}
 use Rattle.file_run.specs.Answers.{Ending}
 use Rattle.command_words.specs.Settings.{word_at}
 use Rattle.command_words.specs.RunSettings.{run_words}
 use Rattle.poplar_top.specs.Outcomes.{Outcome, eval_outcome, gen_outcome}
 use Rattle.poplar_top.specs.RunOutcomes.{run_outcome, run_walks}
 use Rattle.poplar_top.specs.RunLinks.{RunSends, RunFinds}
-use Rattle.poplar_top.specs.Statuses.{MayStand, OutGets, ErrGets}
 
 pub data Command : Type 0 where
   generates : Command
@@ -44,30 +43,19 @@ abbrev pub walks : List (List ℕ) → Option Files → Bool
 walks words files = walks_of (command_of words) words files
 
 -- what passes on the link, by the status: only in a walk does anything pass
-abbrev pub sends_of : Command → List (List ℕ) → Option Files → Bool → Bool → Option Talk → Option Talk → ℕ → Type 0
-sends_of generates words files truth_before truth_now before now status = now ≡ before
-sends_of runs words files truth_before truth_now before now status = RunSends (run_words words) files truth_before truth_now before now status
-sends_of evaluates words files truth_before truth_now before now status = now ≡ before
+abbrev pub sends_of : Command → List (List ℕ) → Option Files → LinkSeen → LinkSeen → ℕ → Type 0
+sends_of generates words files before after status = after ≡ before
+sends_of runs words files before after status = RunSends (run_words words) files before after status
+sends_of evaluates words files before after status = after ≡ before
 
-abbrev pub Sends : List (List ℕ) → Option Files → Bool → Bool → Option Talk → Option Talk → ℕ → Type 0
-Sends words files truth_before truth_now before now status = sends_of (command_of words) words files truth_before truth_now before now status
+-- what the shelf holds stays, but in `gen`
+abbrev pub kept_of : Command → Outside → Outside → Type 0
+kept_of generates before after = Unit {0}
+kept_of runs before after = after.shelf.files ≡ before.shelf.files
+kept_of evaluates before after = after.shelf.files ≡ before.shelf.files
 
 -- what a walk prints of honest reports
-abbrev pub finds_of : Command → List (List ℕ) → Option Files → Bool → Option Talk
-    → Option (List ℕ) → Option (List ℕ) → Option (List ℕ) → Option (List ℕ) → ℕ → Type 0
-finds_of generates words files truth talk out_before out_now err_before err_now status = Unit {0}
-finds_of runs words files truth talk out_before out_now err_before err_now status =
-    RunFinds (run_words words) files truth talk out_before out_now err_before err_now status
-finds_of evaluates words files truth talk out_before out_now err_before err_now status = Unit {0}
-
-abbrev pub Finds : List (List ℕ) → Option Files → Bool → Option Talk
-    → Option (List ℕ) → Option (List ℕ) → Option (List ℕ) → Option (List ℕ) → ℕ → Type 0
-Finds words files truth talk out_before out_now err_before err_now status =
-    finds_of (command_of words) words files truth talk out_before out_now err_before err_now status
-
--- the status, out and err are those of an outcome
-pub record Meets (o : Outcome) (shelf_rose link_rose sink_rose : Type 0) (answer : ℕ)
-    (out_before out_now err_before err_now : Option (List ℕ)) : Type 0 where
-  pub status : MayStand o shelf_rose link_rose sink_rose answer
-  pub out : OutGets o answer out_before out_now
-  pub err : ErrGets o answer err_before err_now
+abbrev pub finds_of : Command → List (List ℕ) → Outside → Outside → ℕ → Type 0
+finds_of generates words before after status = Unit {0}
+finds_of runs words before after status = RunFinds (run_words words) before after status
+finds_of evaluates words before after status = Unit {0}

@@ -1,6 +1,4 @@
 pub mod Refusals
-pub mod EvalTexts
-pub mod Readers
 pub mod Outcomes
 pub mod Statuses
 pub mod Stops
@@ -8,5 +6,5 @@ pub mod RunStops
 pub mod RunOutcomes
 pub mod RunLinks
 pub mod Commands
-pub mod Makings
 pub mod Laws
+pub mod Keeps

@@ -1,13 +1,18 @@
 -- What the words and the told files come to, with the causes in their order.
-use Rattle.std.specs.Prelude.{ℕ, ◌*◌, ◌^◌, List, Option, None, Some, length, nat_lt}
-use Rattle.std.specs.Bool.{if◌then◌else◌}
+use Rattle.std.specs.Prelude.{ℕ, List, Option, None, Some, Ok, Err}
 use Rattle.std.specs.FinMap.{get}
 use Rattle.shelf_io.specs.Files.{Files}
-use Rattle.share_format.specs.ShareFile.{FileCase, too_long, header_wrong, cut, whole, file_case, records}
-use Rattle.text_strings.specs.Lines.{LinesCase, too_many, line_long, zero_byte, strings, lines_case}
+use Rattle.definitions.specs.declared.Side.{Side}
+use Rattle.share_format.specs.declared.file_error.FileError.TheVariants as files
+use Rattle.file_eval.specs.declared.errors.EvalError.{EvalError}
+use Rattle.file_eval.specs.declared.errors.EvalError.TheVariants as evals
+use Rattle.file_eval.specs.Answers.{Answer, eval_answer}
+use Rattle.file_gen.specs.declared.errors.GenError.{GenError}
+use Rattle.file_gen.specs.declared.errors.GenError.TheVariants as gens
+use Rattle.file_gen.specs.Answers.{Answer as Strings, strings_answer}
+use Rattle.text_strings.specs.declared.lines_error.LinesError.TheVariants as lines
 use Rattle.pair_files.specs.Made.{zero_text, one_text}
 use Rattle.command_words.specs.Settings.{EvalSettings, eval_words, GenSettings, gen_words}
-use Rattle.poplar_top.specs.EvalTexts.{value_lines, refused_lines}
 use Rattle.poplar_top.specs.declared.refusal.Refusal.{Refusal}
 use Rattle.poplar_top.specs.declared.refusal.Refusal.TheVariants.{Missing, TooLong, Header, Cut, LongPrefix, NoStrings, StringsLong, TooMany, LineLong, ZeroByte}
 
@@ -24,19 +29,24 @@ pub data Outcome : Type 0 where
   untold_run : Outcome
   unheard : Outcome
 
--- `eval` of a file's bytes in the case that they are
-abbrev pub eval_case : EvalSettings → List ℕ → FileCase → Outcome
-eval_case settings bytes (too_long n) = refusal (TooLong settings.side)
-eval_case settings bytes (header_wrong at) = refusal (Header settings.side at)
-eval_case settings bytes (cut at) = refusal (Cut settings.side at)
-eval_case settings bytes (whole width) =
-    if nat_lt (8 * width) (length settings.prefix) then refusal (LongPrefix (length settings.prefix) width)
-    else texts (value_lines settings.side settings.prefix (records width bytes)) (refused_lines settings.side (records width bytes))
+-- a refusal of `eval`; a failed shelf and want of memory are no outcome of what is told
+abbrev pub eval_refused : Side → EvalError → Outcome
+eval_refused side (evals.File files.Missing) = refusal (Missing side)
+eval_refused side (evals.File (files.TooLong n)) = refusal (TooLong side)
+eval_refused side (evals.File (files.Header at)) = refusal (Header side at)
+eval_refused side (evals.File (files.Cut at)) = refusal (Cut side at)
+eval_refused side (evals.File files.Shelf) = untold_eval
+eval_refused side (evals.File files.Memory) = untold_eval
+eval_refused side (evals.LongPrefix bits width) = refusal (LongPrefix bits width)
+eval_refused side evals.Memory = untold_eval
+
+abbrev pub eval_answered : Side → Answer → Outcome
+eval_answered side (Ok written) = texts written.0 written.1
+eval_answered side (Err e) = eval_refused side e
 
 -- `eval` of the file, where it is there
 abbrev pub eval_file_outcome : EvalSettings → Option (List ℕ) → Outcome
-eval_file_outcome settings None = refusal (Missing settings.side)
-eval_file_outcome settings (Some bytes) = eval_case settings bytes (file_case settings.side bytes)
+eval_file_outcome settings found = eval_answered settings.side (eval_answer settings.side settings.prefix found)
 
 abbrev pub eval_told : EvalSettings → Option Files → Outcome
 eval_told settings None = untold_eval
@@ -51,24 +61,26 @@ eval_outcome words files = eval_settled (eval_words words) files
 
 -- ---- gen
 
--- `gen` of what the strings file holds
-abbrev pub gen_case : GenSettings → LinesCase → Outcome
-gen_case settings (too_many lines) = refusal (TooMany lines)
-gen_case settings (line_long line) = refusal (LineLong line)
-gen_case settings (zero_byte line) = refusal (ZeroByte line)
-gen_case settings (strings them) =
+-- a refusal of `gen`; a failed shelf and want of memory are no outcome of what is told
+abbrev pub gen_refused : GenError → Outcome
+gen_refused gens.Missing = refusal NoStrings
+gen_refused gens.TooLong = refusal StringsLong
+gen_refused (gens.Lines (lines.TooMany count)) = refusal (TooMany count)
+gen_refused (gens.Lines (lines.LineLong line)) = refusal (LineLong line)
+gen_refused (gens.Lines (lines.ZeroByte line)) = refusal (ZeroByte line)
+gen_refused (gens.Lines lines.Memory) = untold_gen
+gen_refused gens.Shelf = untold_gen
+gen_refused gens.Memory = untold_gen
+
+abbrev pub gen_answered : GenSettings → Strings → Outcome
+gen_answered settings (Ok them) =
     writes settings.zero (zero_text settings.width settings.master settings.tag them)
     settings.one (one_text settings.width settings.master settings.tag them)
-
--- the most bytes of a strings file
-abbrev pub most_string_bytes : ℕ
-most_string_bytes = 2 ^ 28
+gen_answered settings (Err e) = gen_refused e
 
 -- `gen` of the strings file, where it is there
 abbrev pub gen_file_outcome : GenSettings → Option (List ℕ) → Outcome
-gen_file_outcome settings None = refusal NoStrings
-gen_file_outcome settings (Some bytes) =
-    if nat_lt most_string_bytes (length bytes) then refusal StringsLong else gen_case settings (lines_case settings.width bytes)
+gen_file_outcome settings found = gen_answered settings (strings_answer settings.width found)
 
 abbrev pub gen_told : GenSettings → Option Files → Outcome
 gen_told settings None = untold_gen

@@ -1,7 +1,7 @@
 //! What the clauses of the top calls come to, over the definitions alone: which cause stands behind which status.
 //! Each law is the contract of a function that does nothing.
 
-ghost use Rattle.poplar_top.specs.Laws.{UsageIsExact, RefusalsAreExact, AnswersAreComplete, WalkFaultsAreExact, TrueRunsAreExact};
+ghost use Rattle.poplar_top.specs.Laws.{UsageIsExact, RefusalsAreExact, AnswersAreComplete, ShelfFaultsAreExact, WalkFaultsAreExact, SinkFaultsAreExact, TrueRunsAreExact};
 
 /// Status 2 stands exactly where the words give no settings, want of memory apart. (Words that give none come to no walk, so the
 /// link is not asked.)
@@ -18,6 +18,17 @@ pub fn refusals_are_exact()
 /// Where there is an answer and no count of faults rises, it is written whole, want of memory apart.
 pub fn answers_are_complete()
     ensures complete { AnswersAreComplete }
+{}
+
+/// Status 6 stands only where the shelf was asked and the shelf's count of faults rose. This holds for what is not told, too.
+pub fn shelf_faults_are_exact()
+    ensures faults { ShelfFaultsAreExact }
+{}
+
+/// Status 10 stands only where texts were written to the sinks and the count of faults of out or of err rose. This holds for what is
+/// not told, too.
+pub fn sink_faults_are_exact()
+    ensures faults { SinkFaultsAreExact }
 {}
 
 /// Status 7 stands only where the words and files came to a walk, which asks the link, and the link's count of faults rose. This

@@ -2,16 +2,11 @@
 //! Its contract says for every command which text is written and which status may stand.
 #![tactic(auto)]
 
-mod eval;
-mod generation;
 pub mod laws;
-mod lines;
 mod refusal;
 mod run;
 mod stop;
 mod telling;
-#[cfg(test)]
-mod tests;
 mod top;
 mod walk_refusal;
 

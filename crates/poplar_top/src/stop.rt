@@ -1,13 +1,15 @@
 //! Why there is no text to write.
 //! A refusal is that of the words, files and messages; the others are faults met on the way.
 
-ghost use Rattle.std.specs.Prelude.{◌≡◌, ◌⊎◌};
-ghost use Rattle.poplar_top.specs.Stops.{file_stop};
+ghost use Rattle.std.specs.Prelude.{◌≡◌};
+ghost use Rattle.poplar_top.specs.Stops.{file_stop, eval_stop, gen_stop};
 
 use crate::refusal::Refusal;
+use file_eval::EvalError;
+use file_gen::GenError;
 use prefix_bits::Side;
 use share_format::FileError;
-use shelf_io::Refused;
+use text_strings::LinesError;
 
 /// Why a command has no text.
 #[derive(Clone, Copy, Debug, PartialEq, Eq)]
@@ -22,17 +24,6 @@ pub(crate) enum Stop {
     Memory,
 }
 
-/// What a refused call of the shelf comes to.
-pub(crate) fn stop_of(refused: Refused) -> Stop
-    ensures shelf { result ≡ Stop.Shelf → refused ≡ Refused.Failed }
-    ensures other { (result ≡ Stop.Shelf) ⊎ (result ≡ Stop.Memory) }
-{
-    match refused {
-        Refused::Failed => Stop::Shelf,
-        Refused::Memory => Stop::Memory,
-    }
-}
-
 /// Why a side's file that is not read whole gives no text.
 pub(crate) fn stop_of_file(error: FileError, side: Side) -> Stop
     ensures value { result ≡ file_stop side error }
@@ -44,5 +35,43 @@ pub(crate) fn stop_of_file(error: FileError, side: Side) -> Stop
         FileError::Cut { at } => Stop::Refusal(Refusal::Cut { side, at }),
         FileError::Shelf => Stop::Shelf,
         FileError::Memory => Stop::Memory,
+    }
+}
+
+/// Why a side's file has no values at a prefix.
+pub(crate) fn stop_of_eval(error: EvalError, side: Side) -> Stop
+    ensures value { result ≡ eval_stop side error }
+{
+    match error {
+        EvalError::File(error) => stop_of_file(error, side),
+        EvalError::LongPrefix { bits, width } => {
+            Stop::Refusal(Refusal::LongPrefix { bits, width })
+        }
+        EvalError::Memory => Stop::Memory,
+    }
+}
+
+// Why a strings file whose lines give no strings gives none.
+fn stop_of_lines(error: LinesError) -> Stop
+    ensures value { result ≡ gen_stop (GenError.Lines error) }
+{
+    match error {
+        LinesError::TooMany { lines } => Stop::Refusal(Refusal::TooMany { lines }),
+        LinesError::LineLong { line } => Stop::Refusal(Refusal::LineLong { line }),
+        LinesError::ZeroByte { line } => Stop::Refusal(Refusal::ZeroByte { line }),
+        LinesError::Memory => Stop::Memory,
+    }
+}
+
+/// Why the files of `gen` are not made.
+pub(crate) fn stop_of_gen(error: GenError) -> Stop
+    ensures value { result ≡ gen_stop error }
+{
+    match error {
+        GenError::Missing => Stop::Refusal(Refusal::NoStrings),
+        GenError::TooLong => Stop::Refusal(Refusal::StringsLong),
+        GenError::Lines(error) => stop_of_lines(error),
+        GenError::Shelf => Stop::Shelf,
+        GenError::Memory => Stop::Memory,
     }
 }

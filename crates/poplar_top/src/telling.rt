@@ -3,23 +3,17 @@
 
 ghost use Rattle.std.specs.Prelude.{◌≡◌, ◌≤◌, ◌⊎◌, ◌++◌, ℕ, take};
 ghost use Rattle.shelf_io.specs.Faults.{Rose};
+ghost use Rattle.shelf_io.specs.Seen.{sink_seen};
 ghost use Rattle.shelf_io.specs.Texts.{Grew, GrewWithin};
 ghost use Rattle.poplar_top.specs.Refusals.{line_of};
 ghost use Rattle.poplar_top.specs.Outcomes.Outcome.{texts};
-ghost use Rattle.poplar_top.specs.Statuses.{Prints, ErrGets, fault_line};
+ghost use Rattle.poplar_top.specs.Statuses.{Prints, ErrGets, OutFirst, fault_line};
 ghost use Rattle.poplar_top.specs.Stops.{stop_status, stop_line, sink_status};
 
 use crate::refusal::{Refusal, line, status};
 use crate::stop::Stop;
 use shelf_io::{Refused, Sink, write_all};
 use std::alloc::Global;
-
-/// The texts of out and of err.
-#[derive(Drop)]
-pub(crate) struct Texts {
-    pub(crate) out: Vec<u8>,
-    pub(crate) err: Vec<u8>,
-}
 
 /// Tells a line, and drops a refusal of that.
 pub(crate) fn tell<E: Sink>(err: &mut E, line: &[u8])
@@ -90,9 +84,12 @@ pub(crate) fn write_texts<K: Sink, E: Sink>(
     text: &[u8],
     lines: &[u8],
 ) -> u8
-    ensures status { (result ≡ 0) ⊎ (((result ≡ 10) × (Rose (K.faults out.old) (K.faults out.new) ⊎ Rose (E.faults err.old) (E.faults err.new))) ⊎ (result ≡ 8)) }
+    ensures status { (result ≡ 0)
+        ⊎ (((result ≡ 10) × (Rose (K.faults out.old) (K.faults out.new) ⊎ Rose (E.faults err.old) (E.faults err.new))) ⊎ (result ≡ 8)) }
     ensures out { Prints (K.taken out.old) (K.taken out.new) text.now result }
     ensures err { ErrGets (texts text.now lines.now) result (E.taken err.old) (E.taken err.new) }
+    ensures order { OutFirst (texts text.now lines.now) result
+        (sink_seen K.Sink out.old) (sink_seen K.Sink out.new) (sink_seen E.Sink err.old) (sink_seen E.Sink err.new) }
     ensures out_later { K.faults out.old ≤ K.faults out.new }
     ensures err_later { E.faults err.old ≤ E.faults err.new }
 {

@@ -1,25 +1,20 @@
 //! The top calls: each command from its words to its status.
 //! What is written and which status may stand is said by the outcome of the words and the told files.
 
-ghost use Rattle.std.specs.Prelude.{◌≡◌, ◌≤◌, ◌⊎◌, ◌≢◌, Some, IsTrue, map};
+ghost use Rattle.std.specs.Prelude.{map};
 ghost use Rattle.std.specs.String.{string_bytes};
-ghost use Rattle.shelf_io.specs.Faults.{Rose};
-ghost use Rattle.walk_definitions.specs.Walk.{walk};
-ghost use Rattle.pair_run.specs.Talking.{IsReady};
-ghost use Rattle.file_run.specs.Hearings.{heard_ending};
-ghost use Rattle.command_words.specs.RunSettings.{run_words};
-ghost use Rattle.poplar_top.specs.Commands.{runs, command_of, outcome, walks, Sends, Finds, Meets};
-ghost use Rattle.poplar_top.specs.Outcomes.{eval_outcome, gen_outcome};
-ghost use Rattle.poplar_top.specs.RunOutcomes.{run_outcome, run_walks};
-ghost use Rattle.poplar_top.specs.RunLinks.{RunSends, RunFinds};
-ghost use Rattle.poplar_top.specs.Statuses.{MayStand, OutGets, ErrGets, ShelfGets};
+ghost use Rattle.shelf_io.specs.Seen.{LinkSeen, SinkSeen, outside, outside_but_link, shelf_and_err};
+ghost use Rattle.poplar_top.specs.Commands.{generates, runs, evaluates};
+ghost use Rattle.poplar_top.specs.Keeps.{KeepsOf, Keeps};
 
-use crate::eval::eval_texts;
-use crate::generation::make_files;
 use crate::run::stop_of_run;
+use crate::stop::{stop_of_eval, stop_of_gen};
 use crate::telling::{tell, tell_stop, write_texts};
 use command_words::{is_command, read_eval, read_gen, read_run};
+use file_eval::eval_texts;
+use file_gen::make_files;
 use file_run::{RunRules, run_files};
+use pair_files::PairSettings;
 use shelf_io::{Gate, Link, Shelf, Sink};
 use std::alloc::Global;
 use std::sync::Wait;
@@ -28,11 +23,13 @@ use std::thread::Threads;
 /// The line that is told where the words give no settings.
 const USAGE: &[u8; 50] = b"usage: poplar eval, gen, run, find, make, upgrade\n";
 
-/// `eval SIDE PREFIX FILE`, the command first: the value of each report of a side's share file at a prefix, one line each on
-/// out, and a line on err for each malformed record. The statuses:
-/// 0, the whole answer was written; 2, the words give no settings; 3, the file is not there, too long, with a wrong header or
-/// cut; 4, the prefix is longer than the strings; 6, the shelf's count of faults rose; 8, want of memory; 10, the count of out
-/// or err rose. The content of the shelf stays.
+/// `eval SIDE PREFIX FILE`, the command first: the value of each report of a side's share file at a prefix, one line each on out,
+/// and a line on err for each malformed record. The statuses: 0, the whole answer was written; 2, the words give no settings; 3,
+/// the file is not there, too long, with a wrong header or cut; 4, the prefix is longer than the strings; 6, the shelf's count of
+/// faults rose; 8, want of memory; 10, the count of out or err rose. Out gets its text before err gets its lines. The content of
+/// the shelf stays.
+///
+/// The promise is `KeepsOf evaluates`, with any link, which stays as it was.
 pub fn eval_file<H: Shelf, K: Sink, E: Sink>(
     alloc: Global,
     words: &[String],
@@ -40,48 +37,56 @@ pub fn eval_file<H: Shelf, K: Sink, E: Sink>(
     out: &mut K,
     err: &mut E,
 ) -> u8
-    ensures status { MayStand (eval_outcome (map string_bytes words.now) (H.files shelf.old))
-        (Rose (H.faults shelf.old) (H.faults shelf.new)) ⊥
-        (Rose (K.faults out.old) (K.faults out.new) ⊎ Rose (E.faults err.old) (E.faults err.new)) result }
-    ensures out { OutGets (eval_outcome (map string_bytes words.now) (H.files shelf.old)) result (K.taken out.old) (K.taken out.new) }
-    ensures err { ErrGets (eval_outcome (map string_bytes words.now) (H.files shelf.old)) result (E.taken err.old) (E.taken err.new) }
-    ensures kept { H.files shelf.new ≡ H.files shelf.old }
-    ensures later { (H.faults shelf.old ≤ H.faults shelf.new) × (K.faults out.old ≤ K.faults out.new) × (E.faults err.old ≤ E.faults err.new) }
+    ensures { (link : LinkSeen) → KeepsOf evaluates (map string_bytes words.now)
+        (outside_but_link H.Shelf K.Sink E.Sink shelf.old out.old err.old link)
+        (outside_but_link H.Shelf K.Sink E.Sink shelf.new out.new err.new link) result }
 {
     let Some(asked) = read_eval(words) else {
         tell(err, USAGE);
         return 2;
     };
-    match eval_texts(alloc, &asked, shelf) {
+    match eval_texts(alloc, asked.side, &asked.prefix, asked.file, shelf) {
         Ok(written) => write_texts(out, err, &written.out, &written.err),
-        Err(stop) => tell_stop(alloc, err, stop),
+        Err(error) => tell_stop(alloc, err, stop_of_eval(error, asked.side)),
     }
 }
 
 /// `gen`, the command first: both share files of the strings of a file. OUT0 gets side 0's shares and OUT1 side 1's, line after
 /// line. The statuses: 0, both files are written whole; 2, the words give no settings; 6, the shelf's count of faults rose; 8,
 /// want of memory; 11, the strings file is not there, too long, with too many lines, or with a line that is too long or has a
-/// zero byte. On 6 and 8 each of the two names is as before or holds a front of its file; all other names stay always. A line
-/// on err that cannot be written is dropped.
+/// zero byte. On 6 and 8 each of the two names is as before or holds a front of its file; all other names stay always. A line on
+/// err that cannot be written is dropped.
+///
+/// The promise is `KeepsOf generates`, with any out and any link, which stay as they were.
 pub fn gen_files<H: Shelf, E: Sink>(
     alloc: Global,
     words: &[String],
     shelf: &mut H,
     err: &mut E,
 ) -> u8
-    ensures status { MayStand (gen_outcome (map string_bytes words.now) (H.files shelf.old))
-        (Rose (H.faults shelf.old) (H.faults shelf.new)) ⊥ (Rose (E.faults err.old) (E.faults err.new)) result }
-    ensures err { ErrGets (gen_outcome (map string_bytes words.now) (H.files shelf.old)) result (E.taken err.old) (E.taken err.new) }
-    ensures shelf { ShelfGets (gen_outcome (map string_bytes words.now) (H.files shelf.old)) result (H.files shelf.old) (H.files shelf.new) }
-    ensures later { (H.faults shelf.old ≤ H.faults shelf.new) × (E.faults err.old ≤ E.faults err.new) }
+    ensures { (out : SinkSeen) (link : LinkSeen) → KeepsOf generates (map string_bytes words.now)
+        (shelf_and_err H.Shelf E.Sink shelf.old err.old out link)
+        (shelf_and_err H.Shelf E.Sink shelf.new err.new out link) result }
 {
     let Some(asked) = read_gen(words) else {
         tell(err, USAGE);
         return 2;
     };
-    match make_files(alloc, &asked, shelf) {
+    let settings = PairSettings {
+        width: asked.width,
+        master: asked.master,
+        tag: asked.tag,
+    };
+    match make_files(
+        alloc,
+        asked.strings,
+        asked.zero,
+        asked.one,
+        &settings,
+        shelf,
+    ) {
         Ok(()) => 0,
-        Err(stop) => tell_stop(alloc, err, stop),
+        Err(error) => tell_stop(alloc, err, stop_of_gen(error)),
     }
 }
 
@@ -96,27 +101,9 @@ fn run_command<R: Threads + Wait + Sync, H: Shelf, K: Sink, E: Sink, L: Link, G:
     link: &mut L,
     gate: &G,
 ) -> u8
-    ensures status { MayStand (run_outcome (heard_ending (L.talk link.old) (L.talk link.new)) (map string_bytes words.now) (H.files shelf.old))
-        (Rose (H.faults shelf.old) (H.faults shelf.new))
-        (IsTrue (run_walks (run_words (map string_bytes words.now)) (H.files shelf.old)) × Rose (L.faults link.old) (L.faults link.new))
-        (Rose (K.faults out.old) (K.faults out.new) ⊎ Rose (E.faults err.old) (E.faults err.new)) result }
-    ensures out { OutGets (run_outcome (heard_ending (L.talk link.old) (L.talk link.new)) (map string_bytes words.now) (H.files shelf.old))
-        result (K.taken out.old) (K.taken out.new) }
-    ensures err { ErrGets (run_outcome (heard_ending (L.talk link.old) (L.talk link.new)) (map string_bytes words.now) (H.files shelf.old))
-        result (E.taken err.old) (E.taken err.new) }
-    ensures truly { IsReady (L.is_true link.old) (L.talk link.old)
-        → Meets (run_outcome (Some walk) (map string_bytes words.now) (H.files shelf.old))
-        (Rose (H.faults shelf.old) (H.faults shelf.new))
-        (IsTrue (run_walks (run_words (map string_bytes words.now)) (H.files shelf.old)) × Rose (L.faults link.old) (L.faults link.new))
-        (Rose (K.faults out.old) (K.faults out.new) ⊎ Rose (E.faults err.old) (E.faults err.new)) result
-        (K.taken out.old) (K.taken out.new) (E.taken err.old) (E.taken err.new) }
-    ensures finds { RunFinds (run_words (map string_bytes words.now)) (H.files shelf.old) (L.is_true link.old) (L.talk link.old)
-        (K.taken out.old) (K.taken out.new) (E.taken err.old) (E.taken err.new) result }
-    ensures sends { RunSends (run_words (map string_bytes words.now)) (H.files shelf.old) (L.is_true link.old) (L.is_true link.new)
-        (L.talk link.old) (L.talk link.new) result }
-    ensures kept { H.files shelf.new ≡ H.files shelf.old }
-    ensures later { (H.faults shelf.old ≤ H.faults shelf.new) × (K.faults out.old ≤ K.faults out.new) × (E.faults err.old ≤ E.faults err.new) }
-    ensures link_later { L.faults link.old ≤ L.faults link.new }
+    ensures { KeepsOf runs (map string_bytes words.now)
+        (outside H.Shelf K.Sink E.Sink L.Link shelf.old out.old err.old link.old)
+        (outside H.Shelf K.Sink E.Sink L.Link shelf.new out.new err.new link.new) result }
 {
     let Some(asked) = read_run(words) else {
         tell(err, USAGE);
@@ -133,20 +120,23 @@ fn run_command<R: Threads + Wait + Sync, H: Shelf, K: Sink, E: Sink, L: Link, G:
     }
 }
 
-/// The program: the words behind its name, a shelf for its files, sinks for its output and its lines, and the link and the
-/// gate that a walk uses. The first word is the command: `eval`, `gen` or `run`; every other is usage.
+/// The program: the words behind its name, a shelf for its files, sinks for its output and its lines, and the link and the gate
+/// that a walk uses. The first word is the command: `eval`, `gen` or `run`; every other is usage.
 ///
-/// `run --threshold N [--cap N] [--verify SEED] FILE0 FILE1` reads side 0's share file whole, then side 1's, and walks the reports
-/// that both hold without clash over the link: out gets the frequent strings with their counts, ascending, and err a line for each
-/// malformed record and one for the end of the walk. The statuses of `run`, in the order of their causes:
-/// 2, the words give no settings; 3, a share file is not there, too long, with a wrong header or cut, side 1's only where side 0's is
-/// whole; 4, the widths differ; 5, a level has more candidates than the cap; 9, what a side received is not the expected message, or
-/// the two sides' sums differ; 0, the answer is written whole; 6, 7 and 10, the count of faults of the shelf, of the link, or of out
+/// `run --threshold N [--cap N] [--verify SEED] FILE0 FILE1` reads side 0's share file whole, then side 1's, and walks the
+/// reports that both hold without clash over the link: out gets the frequent strings with their counts, ascending, and err a line
+/// for each malformed record and one for the end of the walk. The statuses of `run`, in the order of their causes: 2, the words
+/// give no settings; 3, a share file is not there, too long, with a wrong header or cut, side 1's only where side 0's is whole;
+/// 4, the widths differ; 5, a level has more candidates than the cap; 9, what a side received is not the expected message, or the
+/// two sides' sums differ; 0, the answer is written whole; 6, 7 and 10, the count of faults of the shelf, of the link, or of out
 /// or err rose; 8, want of memory. The statuses of `eval` and `gen` are those of `eval_file` and `gen_files`.
 ///
-/// How a walk ends is told by what both sides received in the call; on a link that was true and idle it is the walk's own end, and 9
-/// never comes. The link passes just the walk's messages, and none where the words, the files or the widths are refused.
-#[tactic(auto, using(crate::proofs::CommandSteps::command_steps))]
+/// The promise is `Keeps`, between what the shelf, the sinks and the link told before and after. How a walk ends is told by what
+/// both sides received in the call: the status, out, err and the shelf are those of that (`heard`). Out gets its text before err
+/// gets its lines (`order` of `heard`). The link passes just the walk's messages, and none where the words, the files or the
+/// widths are refused (`sends`); only `gen` changes the shelf (`kept`); no count falls (`later`). On a link that was true and
+/// idle the walk's end is that of the definition (`truly`), 9 never comes, whatever the shelf tells (`agreed`), and generated
+/// reports give exactly the strings that at least the threshold of them hold, with their counts (`finds`).
 pub fn poplar<R: Threads + Wait + Sync, H: Shelf, K: Sink, E: Sink, L: Link, G: Gate>(
     rt: &R,
     alloc: Global,
@@ -157,29 +147,9 @@ pub fn poplar<R: Threads + Wait + Sync, H: Shelf, K: Sink, E: Sink, L: Link, G: 
     link: &mut L,
     gate: &G,
 ) -> u8
-    ensures status { MayStand (outcome (heard_ending (L.talk link.old) (L.talk link.new)) (map string_bytes words.now) (H.files shelf.old))
-        (Rose (H.faults shelf.old) (H.faults shelf.new))
-        (IsTrue (walks (map string_bytes words.now) (H.files shelf.old)) × Rose (L.faults link.old) (L.faults link.new))
-        (Rose (K.faults out.old) (K.faults out.new) ⊎ Rose (E.faults err.old) (E.faults err.new)) result }
-    ensures out { OutGets (outcome (heard_ending (L.talk link.old) (L.talk link.new)) (map string_bytes words.now) (H.files shelf.old))
-        result (K.taken out.old) (K.taken out.new) }
-    ensures err { ErrGets (outcome (heard_ending (L.talk link.old) (L.talk link.new)) (map string_bytes words.now) (H.files shelf.old))
-        result (E.taken err.old) (E.taken err.new) }
-    ensures shelf { ShelfGets (outcome (heard_ending (L.talk link.old) (L.talk link.new)) (map string_bytes words.now) (H.files shelf.old))
-        result (H.files shelf.old) (H.files shelf.new) }
-    ensures truly { IsReady (L.is_true link.old) (L.talk link.old)
-        → Meets (outcome (Some walk) (map string_bytes words.now) (H.files shelf.old))
-        (Rose (H.faults shelf.old) (H.faults shelf.new))
-        (IsTrue (walks (map string_bytes words.now) (H.files shelf.old)) × Rose (L.faults link.old) (L.faults link.new))
-        (Rose (K.faults out.old) (K.faults out.new) ⊎ Rose (E.faults err.old) (E.faults err.new)) result
-        (K.taken out.old) (K.taken out.new) (E.taken err.old) (E.taken err.new) }
-    ensures finds { Finds (map string_bytes words.now) (H.files shelf.old) (L.is_true link.old) (L.talk link.old)
-        (K.taken out.old) (K.taken out.new) (E.taken err.old) (E.taken err.new) result }
-    ensures sends { Sends (map string_bytes words.now) (H.files shelf.old) (L.is_true link.old) (L.is_true link.new)
-        (L.talk link.old) (L.talk link.new) result }
-    ensures later { (H.faults shelf.old ≤ H.faults shelf.new) × (K.faults out.old ≤ K.faults out.new) × (E.faults err.old ≤ E.faults err.new) }
-    ensures link_later { L.faults link.old ≤ L.faults link.new }
-    ensures apart { command_of (map string_bytes words.now) ≢ runs → L.faults link.new ≡ L.faults link.old }
+    ensures { Keeps (map string_bytes words.now)
+        (outside H.Shelf K.Sink E.Sink L.Link shelf.old out.old err.old link.old)
+        (outside H.Shelf K.Sink E.Sink L.Link shelf.new out.new err.new link.new) result }
 {
     if is_command(words, "gen") {
         gen_files(alloc, words, shelf, err)

@@ -5,8 +5,8 @@ use Rattle.definitions.specs.Evaluation.{Share}
 use Rattle.walk_definitions.specs.Reports.{same_bytes}
 use Rattle.report_batch.specs.declared.content.Content.{Content}
 use Rattle.report_batch.specs.Contents.{content_of, met}
-use Rattle.report_batch.proofs.Same.{bytes_decide}
-use Rattle.report_batch.proofs.Orders.{id_cmp, tie_is}
+use Rattle.intake_state.proofs.Same.{bytes_decide}
+use Rattle.intake_state.proofs.Orders.{id_cmp, tie_is}
 use Rattle.report_batch.proofs.Standings.{content_of-more, content_of-other}
 
 -- the content under the share's id is taken out, and the new one put in its place

@@ -19,7 +19,7 @@ use Rattle.report_batch.specs.declared.content.Content.{Content}
 use Rattle.report_batch.specs.declared.content.Content.TheVariants.{One, Clash}
 use Rattle.report_batch.specs.Batches.{reports_of, IsBatch}
 use Rattle.report_batch.specs.Contents.{content_of, both}
-use Rattle.report_batch.proofs.Orders.{id_cmp}
+use Rattle.intake_state.proofs.Orders.{id_cmp}
 use Rattle.report_batch.proofs.Lists.{names}
 use Rattle.report_batch.proofs.Keys.{keys-are}
 use Rattle.report_batch.proofs.Standings.{share_of, standing-is, standing-given}

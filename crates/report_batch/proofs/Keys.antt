@@ -14,8 +14,8 @@ use Rattle.walk_definitions.specs.Reports.{same_bytes}
 use Rattle.walk_definitions.proofs.Order.{Member, AllAbove, Rises, numbers_ordered, lists_ordered, rises-ascending, member-ascending, ascending-member, same_rise}
 use Rattle.report_batch.specs.declared.content.Content.{Content}
 use Rattle.report_batch.specs.Contents.{content, content_of}
-use Rattle.report_batch.proofs.Same.{bytes_decide}
-use Rattle.report_batch.proofs.Orders.{id_cmp, tie_is, less_before}
+use Rattle.intake_state.proofs.Same.{bytes_decide}
+use Rattle.intake_state.proofs.Orders.{id_cmp, tie_is, less_before}
 use Rattle.report_batch.proofs.Lists.{names}
 
 -- ---- keys that a map has in order rise

@@ -1,6 +1,4 @@
 pub mod Lists
-pub mod Same
-pub mod Orders
 pub mod Standings
 pub mod Entered
 pub mod Keys

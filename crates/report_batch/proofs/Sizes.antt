@@ -16,7 +16,7 @@ use Rattle.walk_definitions.specs.Laws.{IsAmong, AllIdsAfter, IdsAscend}
 use Rattle.walk_definitions.proofs.Order.{numbers_ordered, lists_ordered}
 use Rattle.walk_definitions.proofs.BatchLaws.{batch_order_law}
 use Rattle.report_batch.specs.Laws.{IsGiven}
-use Rattle.report_batch.proofs.Same.{bytes_decide}
+use Rattle.intake_state.proofs.Same.{bytes_decide}
 use Rattle.report_batch.proofs.Lists.{names}
 use Rattle.report_batch.proofs.Given.{given}
 

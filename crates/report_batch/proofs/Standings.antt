@@ -11,7 +11,7 @@ use Rattle.walk_definitions.specs.Laws.{IsAmong}
 use Rattle.report_batch.specs.declared.content.Content.{Content}
 use Rattle.report_batch.specs.declared.content.Content.TheVariants.{One, Clash}
 use Rattle.report_batch.specs.Contents.{content, content_of, met}
-use Rattle.report_batch.proofs.Same.{bytes_decide}
+use Rattle.intake_state.proofs.Same.{bytes_decide}
 
 content-push : (ss : List Share) (s : Share) → content (ss ++ s ∷ []) ≡ Some (met (content ss) s)
 content-push [] s = refl

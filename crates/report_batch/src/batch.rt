@@ -32,7 +32,7 @@ impl Model for Batch {
 }
 
 impl Batch {
-    // The batch of three lists that are one.
+    /// The batch of three lists that are one.
     pub(crate) fn of_lists(
         ids: Sequence<ReportId>,
         zero: Sequence<Share>,

@@ -30,7 +30,7 @@ impl Content {
     }
 }
 
-// The content that two shares of one id make: the first of them where they are equal.
+/// The content that two shares of one id make: the first of them where they are equal.
 fn one_if_equal(held: Share, share: &Share) -> Content
     ensures { result ≡ (if same_share held share.now then One held else Clash) }
 {

@@ -3,10 +3,11 @@
 
 ghost use Rattle.std.specs.Prelude.{◌≡◌, length, IfOk};
 
-use crate::batch_of;
+use crate::{Batch, batch_of};
 use definitions::{Sequence, Side};
 use field64::Fe;
 use idpf_eval::{LevelWord, Share, same_share};
+use intake_state::IntakeState;
 use prefix_bits::ReportId;
 use seed_expand::Seed;
 use std::alloc::{AllocError, Global};
@@ -97,5 +98,28 @@ fn an_empty_side_leaves_nothing(rt: HostRuntime) -> Result<(), AllocError> {
     assert_eq!(rt; batch.len(), 0);
     let batch = batch_of(alloc, Vec::new(alloc), shares_of(alloc, &[(1, 1)])?)?;
     assert_eq!(rt; batch.len(), 0);
+    Ok(())
+}
+
+// The state of an intake to which these shares were uploaded in order.
+fn state_of(alloc: Global, pairs: &[(u64, u8)]) -> Result<IntakeState, AllocError> {
+    let mut state = IntakeState::new(alloc);
+    for (number, content) in pairs {
+        match state.upload(0, share_of(alloc, *number, *content)?) {
+            Ok(_) => {}
+            Err((refused, _share)) => return Err(refused),
+        }
+    }
+    Ok(state)
+}
+
+#[test]
+fn an_id_that_clashed_in_an_intake_is_left_out(rt: HostRuntime) -> Result<(), AllocError> {
+    let alloc = rt.alloc();
+    let twice = [(7, 1), (7, 1), (7, 2), (8, 1), (7, 1)];
+    let one = [(8, 5), (7, 5), (8, 5)];
+    let batch = Batch::of(alloc, state_of(alloc, &twice)?, state_of(alloc, &one)?)?;
+    assert_eq!(rt; batch.ids(), [id_of(8)].as_slice());
+    assert!(rt; holds(batch.shares(Side::One), 0, &share_of(alloc, 8, 5)?));
     Ok(())
 }

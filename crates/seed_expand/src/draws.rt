@@ -10,7 +10,7 @@ use rand_chacha::ChaCha20Rng;
 use rand_core::SeedableRng;
 use rand_core::utils::NextWord;
 
-// The generator that stands at a place of a stream.
+/// The generator that stands at a place of a stream.
 #[inline(always)]
 pub(crate) fn at(seed: &Seed, stream: u64, place: u32) -> ChaCha20Rng
     ensures value { result ≡ record { key = key_of seed.now; stream = stream; word_pos = place } }
@@ -21,7 +21,7 @@ pub(crate) fn at(seed: &Seed, stream: u64, place: u32) -> ChaCha20Rng
     rng
 }
 
-// The next word.
+/// The next word.
 #[inline(always)]
 pub(crate) fn next(rng: &mut ChaCha20Rng) -> u32
     requires place { rng.old.word_pos < 2 ^ 33 }
@@ -31,7 +31,7 @@ pub(crate) fn next(rng: &mut ChaCha20Rng) -> u32
     rng.next_word()
 }
 
-// Eight words as bytes, each with its lowest byte first.
+/// Eight words as bytes, each with its lowest byte first.
 #[inline(always)]
 fn bytes_of(words: [u32; 8]) -> [u8; 32]
     ensures value { result ≡ seed_of words }
@@ -48,7 +48,7 @@ fn bytes_of(words: [u32; 8]) -> [u8; 32]
     bytes
 }
 
-// The next eight words.
+/// The next eight words.
 #[inline(always)]
 #[tactic(auto, unfolding(crate::specs::Drawn::eight_at))]
 fn next_eight(rng: &mut ChaCha20Rng) -> [u32; 8]
@@ -68,7 +68,7 @@ fn next_eight(rng: &mut ChaCha20Rng) -> [u32; 8]
     ]
 }
 
-// The seed of the next eight words.
+/// The seed of the next eight words.
 #[inline(always)]
 pub(crate) fn next_seed(rng: &mut ChaCha20Rng) -> Seed
     requires place { rng.old.word_pos < 2 ^ 32 }
@@ -78,7 +78,7 @@ pub(crate) fn next_seed(rng: &mut ChaCha20Rng) -> Seed
     Seed(bytes_of(next_eight(rng)))
 }
 
-// The number of the next four words.
+/// The number of the next four words.
 #[inline(always)]
 #[tactic(auto, unfolding(crate::specs::Drawn::four_at))]
 pub(crate) fn next_number(rng: &mut ChaCha20Rng) -> u128

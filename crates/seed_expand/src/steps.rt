@@ -35,7 +35,7 @@ impl<L: Ledger> Steps<L> {
         Steps { book, share }
     }
 
-    // One more step.
+    /// One more step.
     pub(crate) fn tick(&mut self)
         ensures more { self.new ≡ self.old + 1 }
     {

@@ -13,7 +13,7 @@ use seed_expand::Seed;
 /// The bytes of a level's block.
 pub const BLOCK_LEN: usize = 65;
 
-// The seed at a place.
+/// The seed at a place.
 pub fn seed_at(bytes: &[u8], at: usize) -> Seed
     requires { at + 32 ≤ length bytes.now }
     ensures { result ≡ slice_range bytes.now at (at + 32) }
@@ -23,7 +23,7 @@ pub fn seed_at(bytes: &[u8], at: usize) -> Seed
     Seed(seed)
 }
 
-// The id at a place.
+/// The id at a place.
 pub fn id_at(bytes: &[u8], at: usize) -> ReportId
     requires { at + 16 ≤ length bytes.now }
     ensures { result ≡ slice_range bytes.now at (at + 16) }
@@ -33,7 +33,7 @@ pub fn id_at(bytes: &[u8], at: usize) -> ReportId
     ReportId(id)
 }
 
-// The element at a place, where the number there is below the modulus.
+/// The element at a place, where the number there is below the modulus.
 fn element_at(bytes: &[u8], at: usize) -> Option<Fe>
     requires { at + 8 ≤ length bytes.now }
     ensures found { IsSome result ↔ (number_at bytes.now at < modulus) }
@@ -44,7 +44,7 @@ fn element_at(bytes: &[u8], at: usize) -> Option<Fe>
     Fe::new(u64::from_le_bytes(number))
 }
 
-// Whether the byte of the bits of a block has no further bit set.
+/// Whether the byte of the bits of a block has no further bit set.
 #[tactic(auto, unfolding(crate::specs::ShareFile::has_bits))]
 pub fn has_bits(block: &[u8]) -> bool
     requires { length block.now ≡ BLOCK_LEN }
@@ -53,7 +53,7 @@ pub fn has_bits(block: &[u8]) -> bool
     block[32] <= 3
 }
 
-// The word of a block, where its numbers are below the modulus.
+/// The word of a block, where its numbers are below the modulus.
 #[tactic(auto, unfolding(crate::specs::ShareFile::word_of, crate::specs::ShareFile::has_elements))]
 pub fn read_word(block: &[u8]) -> Option<LevelWord>
     requires { length block.now ≡ BLOCK_LEN }

@@ -58,7 +58,7 @@ impl Header {
     }
 }
 
-// Whether a byte may stand at an offset of the header of this side.
+/// Whether a byte may stand at an offset of the header of this side.
 fn may_stand(side: Side, at: usize, byte: u8) -> bool
     requires { at < 8 }
     ensures { result ≡ may_stand side at byte }

@@ -53,8 +53,8 @@ impl<'n> Model for RecordReader<'n> {
         × (vec_len r.buffer ≡ record_len r.width) };
 }
 
-// What the header of a file and its size, in bytes, come to: the width and the number of records, or what is wrong. `head` is
-// the first 8 bytes, or all where there are fewer.
+/// What the header of a file and its size, in bytes, come to: the width and the number of records, or what is wrong. `head` is
+/// the first 8 bytes, or all where there are fewer.
 fn judged(head: &[u8], size: u64, side: Side) -> Result<(u8, u32), FileError>
     requires front { length head.now ≤ size }
     requires most { size ≤ most_bytes }
@@ -76,7 +76,7 @@ fn judged(head: &[u8], size: u64, side: Side) -> Result<(u8, u32), FileError>
     Ok((header.width, rest / record))
 }
 
-// What the record of these bytes gives, by its number. The only refusal is want of memory.
+/// What the record of these bytes gives, by its number. The only refusal is want of memory.
 #[tactic(auto, using(crate::proofs::ReaderSteps::record_steps))]
 fn given(alloc: Global, bytes: &[u8], width: u8, number: u32) -> Result<Record, FileError>
     requires least { 1 ≤ width }

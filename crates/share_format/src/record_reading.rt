@@ -12,7 +12,7 @@ use definitions::Sequence;
 use idpf_eval::{LevelWord, Share};
 use std::alloc::Global;
 
-// The words of the levels of a record.
+/// The words of the levels of a record.
 #[tactic(auto, using(crate::proofs::RecordSteps::level_steps))]
 fn read_words(alloc: Global, bytes: &[u8], width: u8) -> Result<Vec<LevelWord>, RecordError>
     requires least { 1 ≤ width }

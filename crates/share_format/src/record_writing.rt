@@ -15,14 +15,14 @@ pub fn record_len(width: u8) -> u32
     80 + 520 * u32::from(width)
 }
 
-// The byte of both bit words.
+/// The byte of both bit words.
 fn bits_of(word: &LevelWord) -> u8
     ensures { result ≡ bits_of word.now }
 {
     u8::from(word.left) + 2 * u8::from(word.right)
 }
 
-// Appends bytes for which there is room.
+/// Appends bytes for which there is room.
 fn put(into: &mut Vec<u8>, bytes: &[u8])
     requires room { vec_len into.old + length bytes.now ≤ vec_capacity into.old }
     ensures added { into.new.items ≡ into.old.items ++ bytes.now }
@@ -34,7 +34,7 @@ fn put(into: &mut Vec<u8>, bytes: &[u8])
     };
 }
 
-// Appends the block of a level, for which there is room.
+/// Appends the block of a level, for which there is room.
 #[tactic(auto, unfolding(crate::specs::Spelling::block))]
 fn put_block(into: &mut Vec<u8>, word: &LevelWord)
     requires room { vec_len into.old + BLOCK_LEN ≤ vec_capacity into.old }

@@ -17,7 +17,7 @@ use share_format::{FileError, Record, RecordReader};
 use shelf_io::Shelf;
 use std::alloc::Global;
 
-// Reads the next record and adds it to the lists. Tells whether there was one.
+/// Reads the next record and adds it to the lists. Tells whether there was one.
 fn add_next<H: Shelf>(
     shelf: &mut H,
     reader: &mut RecordReader<'_>,

@@ -6,3 +6,4 @@ pub mod Talks
 pub mod Messages
 pub mod Gates
 pub mod Plans
+pub mod Seen

@@ -9,14 +9,14 @@ ghost use Rattle.shelf_io.specs.Files.{with_bytes, with_more};
 
 use std::alloc::{AllocError, Global};
 
-// A name and its bytes.
+/// A name and its bytes.
 #[derive(Drop)]
 pub struct Entry {
     pub name: String,
     pub bytes: Vec<u8>,
 }
 
-// The place of a name.
+/// The place of a name.
 fn place_of(files: &[Entry], name: &str) -> Option<usize>
     ensures inside { IfSome result (λ i. i < length files.now) }
     ensures found { IfSome result (λ i. IsPlace files.now name.now i) }
@@ -30,7 +30,7 @@ fn place_of(files: &[Entry], name: &str) -> Option<usize>
     None
 }
 
-// Lets a name hold no bytes.
+/// Lets a name hold no bytes.
 pub fn begin_in(alloc: Global, files: &mut Vec<Entry>, name: &str) -> Result<(), AllocError>
     ensures begun { OnOk result (files_of files.new.items ≡ with_bytes name.now [] (files_of files.old.items)) }
     ensures refused { OnErr result (files_of files.new.items ≡ files_of files.old.items) }
@@ -45,7 +45,7 @@ pub fn begin_in(alloc: Global, files: &mut Vec<Entry>, name: &str) -> Result<(),
     Ok(())
 }
 
-// Adds bytes behind those under a name.
+/// Adds bytes behind those under a name.
 pub fn append_in(files: &mut Vec<Entry>, name: &str, bytes: &[u8]) -> Result<(), AllocError>
     requires { IsSome (get (files_of files.old.items) name.now) }
     ensures appended { OnOk result (files_of files.new.items ≡ with_more name.now bytes.now (files_of files.old.items)) }
@@ -58,7 +58,7 @@ pub fn append_in(files: &mut Vec<Entry>, name: &str, bytes: &[u8]) -> Result<(),
     Ok(())
 }
 
-// The bytes under a name.
+/// The bytes under a name.
 pub fn bytes_under<'a>(files: &'a [Entry], name: &str) -> Option<&'a [u8]>
     ensures { option_map (λ bytes. bytes.now) result ≡ get (files_of files.now) name.now }
 {
@@ -66,7 +66,7 @@ pub fn bytes_under<'a>(files: &'a [Entry], name: &str) -> Option<&'a [u8]>
     Some(files[i].bytes.as_slice())
 }
 
-// Copies the front of what is left from a place on, and tells how much.
+/// Copies the front of what is left from a place on, and tells how much.
 pub fn copy_from(bytes: &[u8], from: u64, into: &mut [u8]) -> usize
     ensures within { result ≤ length into.old }
     ensures rest { drop result into.new ≡ drop result into.old }

@@ -37,7 +37,7 @@ impl<'r, R: Files> FileShelf<'r, R> {
     }
 }
 
-// Writes all of the bytes, and tells whether it could.
+/// Writes all of the bytes, and tells whether it could.
 fn write_through<W: Write>(writer: &mut W, bytes: &[u8]) -> bool {
     let mut done = 0;
     while done < bytes.len() {

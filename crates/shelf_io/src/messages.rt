@@ -9,14 +9,14 @@ use crate::queue::Queue;
 use definitions::Side;
 use std::alloc::{AllocError, Global};
 
-// A sender and its bytes.
+/// A sender and its bytes.
 #[derive(Drop)]
 pub struct Message {
     pub from: Side,
     pub bytes: Vec<u8>,
 }
 
-// Keeps a message.
+/// Keeps a message.
 pub fn keep_in(
     alloc: Global,
     sent: &mut Vec<Message>,
@@ -31,7 +31,7 @@ pub fn keep_in(
     Ok(())
 }
 
-// Lets bytes of a side wait for the other one; these are the queues of side 0 and side 1.
+/// Lets bytes of a side wait for the other one; these are the queues of side 0 and side 1.
 pub fn push_for(
     from: Side,
     zero: &mut Queue,

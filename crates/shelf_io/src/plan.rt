@@ -8,7 +8,7 @@ ghost use Rattle.shelf_io.specs.Plans.{fresh, place_of_call, IsDue, WasMade};
 use crate::call::Call;
 use std::marker::Model;
 
-// The calls that are to fail, how many of each kind were made, and how many have failed.
+/// The calls that are to fail, how many of each kind were made, and how many have failed.
 #[derive(Drop)]
 pub struct Plan {
     fail: Vec<(Call, u64)>,
@@ -25,7 +25,7 @@ impl Model for Plan {
 }
 
 impl Plan {
-    // No call was made.
+    /// No call was made.
     pub fn new(fail: Vec<(Call, u64)>) -> Plan
         ensures planned { result ≡ fresh fail.items }
     {
@@ -36,7 +36,7 @@ impl Plan {
         }
     }
 
-    // Counts a call, and tells whether it is to fail, which counts as a fault.
+    /// Counts a call, and tells whether it is to fail, which counts as a fault.
     pub fn fails(&mut self, call: Call) -> bool
         ensures due { IsTrue result ↔ IsDue call self.old }
         ensures made { WasMade call self.old self.new }
@@ -54,7 +54,7 @@ impl Plan {
     }
 }
 
-// The place of a kind of call among the counts.
+/// The place of a kind of call among the counts.
 fn place_of(call: Call) -> usize
     ensures place { result ≡ place_of_call call }
 {

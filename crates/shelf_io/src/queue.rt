@@ -6,7 +6,7 @@ ghost use Rattle.std.specs.Prelude.{◌≡◌, ◌<◌, ◌≤◌, ◌++◌, [],
 use std::alloc::{AllocError, Global};
 use std::marker::Model;
 
-// Bytes that wait, from `start` on. Contracts see them as a list.
+/// Bytes that wait, from `start` on. Contracts see them as a list.
 #[derive(Drop)]
 pub struct Queue {
     bytes: Vec<u8>,
@@ -24,7 +24,7 @@ impl Model for Queue {
 }
 
 impl Queue {
-    // Nothing waits.
+    /// Nothing waits.
     pub fn new(alloc: Global) -> Queue
         ensures empty { result ≡ [] }
     {
@@ -34,7 +34,7 @@ impl Queue {
         }
     }
 
-    // Adds bytes at the end.
+    /// Adds bytes at the end.
     pub fn push(&mut self, bytes: &[u8]) -> Result<(), AllocError>
         ensures added { OnOk result (self.new ≡ self.old ++ bytes.now) }
         ensures refused { OnErr result (self.new ≡ self.old) }
@@ -47,7 +47,7 @@ impl Queue {
         Ok(())
     }
 
-    // Takes bytes from the front, and tells how many.
+    /// Takes bytes from the front, and tells how many.
     pub fn take(&mut self, into: &mut [u8]) -> usize
         ensures within { (result ≤ length into.old) × (result ≤ length self.old) }
         ensures rest { drop result into.new ≡ drop result into.old }

@@ -6,7 +6,7 @@ ghost use Rattle.shelf_io.specs.Faults.{Rose};
 
 use crate::refused::Refused;
 
-// Counts a fault; the count stops at 2^64 - 1.
+/// Counts a fault; the count stops at 2^64 - 1.
 pub fn failed(faults: &mut u64) -> Refused
     ensures value { result ≡ Refused.Failed }
     ensures rose { Rose faults.old faults.new }

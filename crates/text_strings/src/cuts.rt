@@ -8,7 +8,7 @@ ghost use Rattle.text_strings.specs.Shown.{without_end_zeros};
 /// The byte that ends a line.
 const LINE_FEED: u8 = b'\n';
 
-// The place of the first line feed, or the number of bytes where there is none.
+/// The place of the first line feed, or the number of bytes where there is none.
 fn line_end(bytes: &[u8]) -> usize
     ensures within { result ≤ length bytes.now }
     ensures before { (k : ℕ) → k < result → slice_index bytes.now k ≢ line_feed }

@@ -39,14 +39,14 @@ pub fn read_lines(alloc: Global, bytes: &[u8], width: u8) -> Result<Vec<Prefix>,
     Ok(strings_of(alloc, bytes, width)?)
 }
 
-// The bytes of a file of the shares of so many strings: 8 at its head, and for each string 80 and 65 for each of its bits.
+/// The bytes of a file of the shares of so many strings: 8 at its head, and for each string 80 and 65 for each of its bits.
 fn share_bytes(width: u8, count: u32) -> u64
     ensures { result ≡ share_bytes width count }
 {
     8 + (80 + 520 * u64::from(width)) * u64::from(count)
 }
 
-// The number of lines.
+/// The number of lines.
 #[tactic(auto, using(crate::proofs::LineSteps::line_steps))]
 fn count_lines(bytes: &[u8]) -> u32
     requires { length bytes.now < 2 ^ 31 }
@@ -62,7 +62,7 @@ fn count_lines(bytes: &[u8]) -> u32
     count
 }
 
-// Whether each line is good, or else the error of the first line at fault.
+/// Whether each line is good, or else the error of the first line at fault.
 #[tactic(auto, using(crate::proofs::LineSteps::line_steps))]
 fn check_lines(bytes: &[u8], width: u8) -> Result<(), LinesError>
     requires { length bytes.now < 2 ^ 31 }
@@ -85,7 +85,7 @@ fn check_lines(bytes: &[u8], width: u8) -> Result<(), LinesError>
     Ok(())
 }
 
-// The strings of the lines, none of which is to be at fault.
+/// The strings of the lines, none of which is to be at fault.
 #[tactic(auto, using(crate::proofs::LineSteps::line_steps))]
 fn strings_of(alloc: Global, bytes: &[u8], width: u8) -> Result<Vec<Prefix>, AllocError>
     requires most { width ≤ MOST_WIDTH }
@@ -102,7 +102,7 @@ fn strings_of(alloc: Global, bytes: &[u8], width: u8) -> Result<Vec<Prefix>, All
     Ok(found)
 }
 
-// The string of a line, which is not to be longer than the width.
+/// The string of a line, which is not to be longer than the width.
 fn string_of(line: &[u8], width: u8) -> Prefix
     requires most { width ≤ MOST_WIDTH }
     requires fits { length line.now ≤ width }

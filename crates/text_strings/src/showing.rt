@@ -23,7 +23,7 @@ pub fn shown(alloc: Global, bytes: &[u8]) -> Result<String, AllocError>
     Ok(text)
 }
 
-// Adds the text of a byte.
+/// Adds the text of a byte.
 fn show_byte(text: &mut String, byte: u8) -> Result<(), AllocError>
     ensures { OnOk result (string_bytes text.new ≡ string_bytes text.old ++ shown_byte byte) }
 {
@@ -36,14 +36,14 @@ fn show_byte(text: &mut String, byte: u8) -> Result<(), AllocError>
     }
 }
 
-// Whether a byte is shown as itself.
+/// Whether a byte is shown as itself.
 fn is_plain(byte: u8) -> bool
     ensures { result ≡ is_plain byte }
 {
     (0x21..=0x7e).contains(&byte) && byte != b'\\'
 }
 
-// The lower-case hexadecimal digit of a number below 16.
+/// The lower-case hexadecimal digit of a number below 16.
 fn digit(number: u8) -> char
     requires { number < 16 }
     ensures { result ≡ digit_char number }

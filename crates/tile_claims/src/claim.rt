@@ -13,7 +13,7 @@ use atomic_table::{Seat, Table};
 use std::alloc::{AllocError, Global};
 use std::marker::Model;
 
-// The table that owns the claim word.
+/// The table that owns the claim word.
 type WordTable = Table<u8, View, u32, ClaimRule, Global>;
 
 /// The numbers of `tiles` tiles, to be drawn by several drawers at once. It is shared by `&` between threads.
@@ -95,7 +95,7 @@ impl Claims {
     }
 }
 
-// The drawer of that number, made by the seat that keeps the count.
+/// The drawer of that number, made by the seat that keeps the count.
 fn deal(word: &Word, keeper: &mut Seat<u8, View>, number: u32) -> Drawer
     requires mine { (keeper.old.table_id ≡ word.now.table_id) × (0 < word.now.table_id.words) }
     requires first { keeper.old.me ≡ (view_of number (drawer_list 0 [] ∷ []), []) }
@@ -108,7 +108,7 @@ fn deal(word: &Word, keeper: &mut Seat<u8, View>, number: u32) -> Drawer
     Drawer::at(seat, number)
 }
 
-// The drawer's list goes before those of the seat that collects them.
+/// The drawer's list goes before those of the seat that collects them.
 fn take_in(word: &Word, keeper: &mut Seat<u8, View>, drawer: Drawer)
     requires keeper { keeper.old.table_id ≡ word.now.table_id }
     requires mine { (drawer.claims ≡ word.now.table_id) × (0 < word.now.table_id.words) }
@@ -124,7 +124,7 @@ fn take_in(word: &Word, keeper: &mut Seat<u8, View>, drawer: Drawer)
     word.join_seat::<Gather>(keeper, seat);
 }
 
-// The word's value, by the seat that has every list.
+/// The word's value, by the seat that has every list.
 fn finish(table: WordTable, keeper: Seat<u8, View>) -> u64
     requires mine { keeper.table_id ≡ table.shared.table_id }
     requires word { (table.shared.table_id.words ≡ 1) × (table.shared.table_id.slots ≡ 0) }

@@ -55,7 +55,7 @@ impl Drawer {
         self.number
     }
 
-    // A drawer of that number on a seat that has drawn nothing.
+    /// A drawer of that number on a seat that has drawn nothing.
     pub(crate) fn at(seat: Seat<u8, View>, number: u32) -> Drawer
         requires { seat.me ≡ (view_of seat.me.0.made (drawer_list number [] ∷ []), []) }
         ensures { result ≡ fresh_drawer seat.table_id number }
@@ -67,7 +67,7 @@ impl Drawer {
         }
     }
 
-    // The seat alone.
+    /// The seat alone.
     pub(crate) fn into_seat(self) -> Seat<u8, View>
         ensures table { result.table_id ≡ self.claims }
         ensures me { result.me ≡ (view_of result.me.0.made (drawer_list self.number self.drawn ∷ []), []) }
@@ -80,7 +80,7 @@ impl Drawer {
         seat
     }
 
-    // Draws the next number of the word. It is the answer where it is below `tiles`.
+    /// Draws the next number of the word. It is the answer where it is below `tiles`.
     pub(crate) fn draw(&mut self, word: &Word, tiles: u32) -> Option<u32>
         requires mine { (self.old.claims ≡ word.now.table_id) × (0 < word.now.table_id.words) }
         requires more { self.old.had_none ≡ false }

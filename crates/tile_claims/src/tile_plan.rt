@@ -83,7 +83,7 @@ impl TilePlan {
     }
 }
 
-// Where a block begins and ends.
+/// Where a block begins and ends.
 fn part(block: u32, by: u32, all: u32) -> (u32, u32)
     requires begins { block * by < all }
     requires some { 0 < by }

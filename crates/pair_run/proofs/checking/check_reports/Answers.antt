@@ -5,7 +5,8 @@ use Rattle.walk_definitions.specs.Heard.{sigmas}
 use Rattle.pair_run.specs.declared.answers.PairError.TheVariants.{Memory}
 use Rattle.pair_run.specs.Failures.{end_of}
 use Rattle.pair_run.specs.Places.{picked}
-use Rattle.pair_run.specs.Talking.{IsReady, SentMore, SentPart}
+use Rattle.shelf_io.specs.Seen.{IsReady}
+use Rattle.pair_run.specs.Talking.{SentMore, SentPart}
 use Rattle.pair_run.proofs.Followed.{err_same, part_whole}
 use Rattle.pair_run.proofs.checking.check_reports.Goals as goal
 

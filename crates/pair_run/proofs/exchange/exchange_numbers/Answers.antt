@@ -3,7 +3,8 @@ use Rattle.walk_definitions.specs.Messages.{both_send}
 use Rattle.pair_run.specs.AddedKinds.{added_number}
 use Rattle.pair_run.specs.Failures.{end_of, Stops}
 use Rattle.pair_run.specs.Parts.{exchange}
-use Rattle.pair_run.specs.Talking.{IsReady, SentPart}
+use Rattle.shelf_io.specs.Seen.{IsReady}
+use Rattle.pair_run.specs.Talking.{SentPart}
 use Rattle.pair_run.proofs.Exchanges.{err_by, stops_first, stops_second, partly_first, partly_second, passed_both, ready_both}
 use Rattle.pair_run.proofs.exchange.exchange_numbers.Goals as goal
 

@@ -3,7 +3,8 @@ use Rattle.walk_definitions.specs.Messages.{flat, both_send}
 use Rattle.peer_exchange.proofs.Flats.{length-flat}
 use Rattle.pair_run.specs.Failures.{end_of, Stops}
 use Rattle.pair_run.specs.Parts.{exchange}
-use Rattle.pair_run.specs.Talking.{IsReady, SentPart}
+use Rattle.shelf_io.specs.Seen.{IsReady}
+use Rattle.pair_run.specs.Talking.{SentPart}
 use Rattle.pair_run.proofs.Exchanges.{err_by, stops_first, stops_second, partly_first, partly_second, passed_both, ready_both, sent_one, own_stops, back}
 use Rattle.pair_run.proofs.exchange.exchange_sums.Goals as goal
 

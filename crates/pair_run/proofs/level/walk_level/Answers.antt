@@ -11,7 +11,8 @@ use Rattle.pair_run.specs.Levels.{stage_of}
 use Rattle.pair_run.specs.Parts.{GoesOn, opening, totalling, whole_level}
 use Rattle.pair_run.specs.Places.{picked}
 use Rattle.pair_run.specs.Rules.{rules_of}
-use Rattle.pair_run.specs.Talking.{Passed, IsReady, SentMore, SentPart}
+use Rattle.shelf_io.specs.Seen.{IsReady}
+use Rattle.pair_run.specs.Talking.{Passed, SentMore, SentPart}
 use Rattle.pair_run.proofs.Followed.{err_same}
 use Rattle.pair_run.proofs.LevelParts.{level_goes, level_stops_first, level_stops_second, level_stops_third, passed_is, totals_are, level_sent, part_one, part_two, part_three}
 use Rattle.pair_run.proofs.level.walk_level.Goals as goal

@@ -10,7 +10,8 @@ use Rattle.pair_run.specs.Failures.{end_of, Stops}
 use Rattle.pair_run.specs.Parts.{GoesOn, exchange, opening}
 use Rattle.pair_run.specs.Places.{picked}
 use Rattle.pair_run.specs.Rules.{rules_of}
-use Rattle.pair_run.specs.Talking.{IsReady, SentPart}
+use Rattle.shelf_io.specs.Seen.{IsReady}
+use Rattle.pair_run.specs.Talking.{SentPart}
 use Rattle.pair_run.proofs.Followed.{err_same, stops_as, passed_map, part_whole}
 use Rattle.pair_run.proofs.Openings.{opening_goes, opening_ends, both_are}
 use Rattle.pair_run.proofs.Views.{length_paired}

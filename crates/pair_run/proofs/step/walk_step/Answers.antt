@@ -9,7 +9,8 @@ use Rattle.pair_run.specs.Parts.{GoesOn, whole_level}
 use Rattle.pair_run.specs.Places.{picked}
 use Rattle.pair_run.specs.Rules.{rules_of}
 use Rattle.pair_run.specs.Steps.{IsOutcome, IsStop, StepHeard, StepTrue}
-use Rattle.pair_run.specs.Talking.{Passed, IsReady, SentMore, SentPart}
+use Rattle.shelf_io.specs.Seen.{IsReady}
+use Rattle.pair_run.specs.Talking.{Passed, SentMore, SentPart}
 use Rattle.pair_run.specs.Walks.{IsStage, EndsSo, TrulyEnds}
 use Rattle.pair_run.proofs.Followed.{err_same, if_ok, if_err}
 use Rattle.pair_run.proofs.WalkSteps.{as_here, step_heard, step_stops, level_stops, level_part, step_true, step_part}

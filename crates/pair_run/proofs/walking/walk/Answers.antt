@@ -1,27 +1,14 @@
-use Rattle.std.proofs.Common.{◌≡◌, List, length}
-use Rattle.std.specs.Prelude.{Bool}
-use Rattle.walk_definitions.specs.Walk.{done, walk}
-use Rattle.walk_definitions.specs.Heavy.{heavy}
-use Rattle.walk_definitions.specs.Laws.{IsHonest}
-use Rattle.walk_definitions.specs.Messages.{messages}
-use Rattle.walk_definitions.proofs.Honest.{heavy_law}
+use Rattle.std.proofs.Common.{sym, arith}
+use Rattle.shelf_io.specs.Seen.{link_seen}
+use Rattle.pair_run.specs.Places.{picked}
 use Rattle.pair_run.specs.Rules.{rules_of}
-use Rattle.pair_run.specs.Talking.{IsReady, SentMore}
-use Rattle.pair_run.proofs.Followed.{if_ok}
+use Rattle.pair_run.proofs.Keeping.{walk_keeps}
 use Rattle.pair_run.proofs.walking.walk.Goals as goal
 
-pub returns-clause-honest : goal.returns-clause-honest
-returns-clause-honest g c =
-    let rules = rules_of c.args.settings.now in
+pub returns : goal.returns
+returns g c =
     let batch = c.args.batch.now in
-    let truth0 = g.K.Link.is_true c.args.link.now in
-    let truth1 = g.K.Link.is_true c.walk_whole.new.link in
-    let talk0 = g.K.Link.talk c.args.link.now in
-    let talk1 = g.K.Link.talk c.walk_whole.new.link in
-    if_ok c.walk_whole.result
-    (λ answer. IsReady truth0 talk0
-    → (walk rules batch ≡ done answer.levels answer.passed answer.heavy) × IsReady truth1 talk1 × SentMore talk0 talk1 (messages rules batch))
-    (λ answer. IsReady truth0 talk0 → (strings : List (List Bool)) → IsHonest rules batch strings
-    → (answer.passed ≡ length strings) × (answer.heavy ≡ heavy c.args.settings.now.bits strings c.args.settings.now.threshold))
-    (λ answer h ready strings honest. (heavy_law rules batch strings honest).answer answer.levels answer.passed answer.heavy (h ready).0)
-    c.walk_whole.ensures.truly
+    walk_keeps (rules_of c.args.settings.now) batch (link_seen g.K.Link c.args.link.now) (link_seen g.K.Link c.walk_from.new.link)
+    (omega (arith, c.requires.settings.some_bits)) c.requires.settings.some_threshold c.requires.few c.walk_from.result
+    c.in_ok-frontier.frontier (picked batch c.in_ok-live.live.items) c.in_ok-frontier.ensures.value (c.in_ok-live.ensures.whole batch (sym c.len.ensures))
+    c.walk_from.ensures.answer c.walk_from.ensures.heard c.walk_from.ensures.truly c.walk_from.ensures.cause

@@ -1,32 +1,45 @@
-use Rattle.std.proofs.Common.{◌⊎◌, map, sym, subst}
-use Rattle.shelf_io.specs.Faults.{Rose}
+use Rattle.std.proofs.Common.{◌≡◌, map, refl, sym, subst}
 use Rattle.std.specs.String.{string_bytes}
-use Rattle.command_words.specs.Settings.{EvalSettings, eval_words}
-use Rattle.poplar_top.specs.Outcomes.{eval_settled, eval_told}
-use Rattle.poplar_top.specs.Stops.{stop_status}
-use Rattle.poplar_top.specs.Statuses.{ErrGets, MayStand}
-use Rattle.poplar_top.proofs.TopSteps.{eval_stop, eval_status}
+use Rattle.command_words.specs.Settings.{EvalSettings}
+use Rattle.poplar_top.specs.Commands.{evaluates}
+use Rattle.poplar_top.specs.Keeps.{KeepsOf}
+use Rattle.poplar_top.specs.Outcomes.Outcome.{texts}
+use Rattle.shelf_io.specs.Seen.{outside_but_link}
+use Rattle.poplar_top.specs.Statuses.{Prints, ErrGets, OutFirst}
+use Rattle.shelf_io.specs.Texts.{GrewWithin}
+use Rattle.poplar_top.specs.Stops.{eval_stop, stop_status, stop_line}
+use Rattle.poplar_top.proofs.EvalSteps.{files_are, files_fit, error_own, error_shelf}
+use Rattle.poplar_top.proofs.CommandSteps.{eval_error_keeps, eval_texts_keep}
 use Rattle.poplar_top.proofs.top.eval_file.Goals as goal
 
-pub returns-in-Err-clause-err : goal.returns-in-Err-clause-err
-returns-in-Err-clause-err g c =
-    let files = g.H.Shelf.files c.args.shelf.now in
-    let before = g.E.Sink.taken c.args.err.now in
-    let now = g.E.Sink.taken c.tell_stop.new.err in
+pub returns-in-Ok : goal.returns-in-Ok
+returns-in-Ok g c = λ link.
     let asked = c.in-Some.asked in
     let settings : EvalSettings = record { side = asked.side; prefix = asked.prefix; file = asked.file.now } in
-    let told : ErrGets (eval_told settings files) (stop_status c.in-Err.stop) before now =
-    eval_stop settings files c.in-Err.stop before now c.in-Err.ensures.refused c.tell_stop.ensures.line in
-    let settled = subst (λ s. ErrGets (eval_settled s files) (stop_status c.in-Err.stop) before now) c.in-Some.ensures.value told in
-    subst (λ n. ErrGets (eval_settled (eval_words (map string_bytes c.args.words.now)) files) n before now) (sym c.tell_stop.ensures.status) settled
+    let before = outside_but_link g.H.Shelf g.K.Sink g.E.Sink c.args.shelf.now c.args.out.now c.args.err.now link in
+    let after = outside_but_link g.H.Shelf g.K.Sink g.E.Sink c.eval_texts.new.shelf c.write_texts.new.out c.write_texts.new.err link in
+    let written = c.in-Ok.written in let status = c.write_texts.result in
+    eval_texts_keep (map string_bytes c.args.words.now) settings c.in-Some.ensures.value before after refl c.in-Ok.ensures.kept c.in-Ok.ensures.cause.later
+    c.write_texts.ensures.err_later written.out.items written.err.items status c.write_texts.ensures.out_later (files_are settings before.shelf.files written c.in-Ok.ensures.exact) c.write_texts.ensures.status
+    (subst (λ text. Prints before.out.taken after.out.taken text status) c.deref.ensures.value c.write_texts.ensures.out)
+    (subst (λ text. ErrGets (texts text written.err.items) status before.err.taken after.err.taken) c.deref.ensures.value
+    (subst (λ lines. ErrGets (texts c.deref.result.now lines) status before.err.taken after.err.taken) c.deref-in-Ok.ensures.value c.write_texts.ensures.err))
+    (subst (λ text. OutFirst (texts text written.err.items) status before.out after.out before.err after.err) c.deref.ensures.value
+    (subst (λ lines. OutFirst (texts c.deref.result.now lines) status before.out after.out before.err after.err) c.deref-in-Ok.ensures.value
+    c.write_texts.ensures.order))
 
-pub returns-in-Err-clause-status : goal.returns-in-Err-clause-status
-returns-in-Err-clause-status g c =
-    let files = g.H.Shelf.files c.args.shelf.now in
+pub returns-in-Err : goal.returns-in-Err
+returns-in-Err g c = λ link.
     let asked = c.in-Some.asked in
     let settings : EvalSettings = record { side = asked.side; prefix = asked.prefix; file = asked.file.now } in
-    let shelf_rose = Rose (g.H.Shelf.faults c.args.shelf.now) (g.H.Shelf.faults c.eval_texts.new.shelf) in
-    let sink_rose = Rose (g.K.Sink.faults c.args.out.now) (g.K.Sink.faults c.args.out.now) ⊎ Rose (g.E.Sink.faults c.args.err.now) (g.E.Sink.faults c.tell_stop.new.err) in
-    let told = eval_status settings files c.in-Err.stop shelf_rose ⊥ sink_rose c.in-Err.ensures.own c.in-Err.ensures.refused c.in-Err.ensures.fault in
-    let settled = subst (λ s. MayStand (eval_settled s files) shelf_rose ⊥ sink_rose (stop_status c.in-Err.stop)) c.in-Some.ensures.value told in
-    subst (λ n. MayStand (eval_settled (eval_words (map string_bytes c.args.words.now)) files) shelf_rose ⊥ sink_rose n) (sym c.tell_stop.ensures.status) settled
+    let words = map string_bytes c.args.words.now in
+    let before = outside_but_link g.H.Shelf g.K.Sink g.E.Sink c.args.shelf.now c.args.out.now c.args.err.now link in
+    let after = outside_but_link g.H.Shelf g.K.Sink g.E.Sink c.eval_texts.new.shelf c.args.out.now c.tell_stop.new.err link in
+    let error = c.in-Err.error in
+    let is : c.tell_stop.result ≡ stop_status (eval_stop asked.side error) =
+    subst (λ stop. c.tell_stop.result ≡ stop_status stop) c.stop_of_eval.ensures.value c.tell_stop.ensures.status in
+    subst (λ n. KeepsOf evaluates words before after n) (sym is)
+    (eval_error_keeps words settings c.in-Some.ensures.value before after refl c.in-Err.ensures.kept c.in-Err.ensures.cause.later c.tell_stop.ensures.later
+    (eval_stop asked.side error) refl (files_fit settings before.shelf.files error c.in-Err.ensures.exact) (error_own asked.side error)
+    (λ shelf. c.in-Err.ensures.cause.rose (error_shelf asked.side error shelf))
+    (subst (λ stop. GrewWithin before.err.taken after.err.taken (stop_line stop)) c.stop_of_eval.ensures.value c.tell_stop.ensures.line))

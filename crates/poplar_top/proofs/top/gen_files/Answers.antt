@@ -1,20 +1,35 @@
-use Rattle.std.proofs.Common.{map, sym, subst}
+use Rattle.std.proofs.Common.{◌≡◌, map, refl, sym, subst}
 use Rattle.std.specs.String.{string_bytes}
-use Rattle.command_words.specs.Settings.{GenSettings, gen_words}
-use Rattle.poplar_top.specs.Outcomes.{gen_settled}
-use Rattle.poplar_top.specs.Stops.{stop_status}
-use Rattle.poplar_top.specs.Statuses.{ErrGets}
-use Rattle.poplar_top.proofs.TopSteps.{gen_stop}
+use Rattle.shelf_io.specs.Seen.{shelf_and_err}
+use Rattle.shelf_io.specs.Texts.{GrewWithin}
+use Rattle.command_words.specs.Settings.{GenSettings}
+use Rattle.poplar_top.specs.Commands.{generates}
+use Rattle.poplar_top.specs.Keeps.{KeepsOf}
+use Rattle.poplar_top.specs.Stops.{gen_stop, stop_status, stop_line}
+use Rattle.poplar_top.proofs.CommandSteps.{gen_error_keeps, gen_made_keeps}
 use Rattle.poplar_top.proofs.top.gen_files.Goals as goal
 
-pub returns-in-Err-clause-err : goal.returns-in-Err-clause-err
-returns-in-Err-clause-err g c =
-    let files = g.H.Shelf.files c.args.shelf.now in
-    let before = g.E.Sink.taken c.args.err.now in
-    let now = g.E.Sink.taken c.tell_stop.new.err in
+pub returns-in-Ok : goal.returns-in-Ok
+returns-in-Ok g c = λ out link.
     let a = c.in-Some.asked in
     let settings : GenSettings =
     record { width = a.width; master = a.master; tag = a.tag; strings = a.strings.now; zero = a.zero.now; one = a.one.now } in
-    let told = gen_stop settings files c.in-Err.stop before now c.in-Err.ensures.stopped.fits c.tell_stop.ensures.line in
-    let settled = subst (λ s. ErrGets (gen_settled s files) (stop_status c.in-Err.stop) before now) c.in-Some.ensures.value told in
-    subst (λ n. ErrGets (gen_settled (gen_words (map string_bytes c.args.words.now)) files) n before now) (sym c.tell_stop.ensures.status) settled
+    gen_made_keeps (map string_bytes c.args.words.now) settings c.in-Some.ensures.value (shelf_and_err g.H.Shelf g.E.Sink c.args.shelf.now c.args.err.now out link)
+    (shelf_and_err g.H.Shelf g.E.Sink c.make_files.new.shelf c.args.err.now out link) refl refl c.in-Ok.ensures.cause.later refl c.in-Ok.ensures.made
+
+pub returns-in-Err : goal.returns-in-Err
+returns-in-Err g c = λ out link.
+    let a = c.in-Some.asked in
+    let settings : GenSettings =
+    record { width = a.width; master = a.master; tag = a.tag; strings = a.strings.now; zero = a.zero.now; one = a.one.now } in
+    let words = map string_bytes c.args.words.now in
+    let error = c.in-Err.error in
+    let before = shelf_and_err g.H.Shelf g.E.Sink c.args.shelf.now c.args.err.now out link in
+    let after = shelf_and_err g.H.Shelf g.E.Sink c.make_files.new.shelf c.tell_stop.new.err out link in
+    let is : c.tell_stop.result ≡ stop_status (gen_stop error) =
+    subst (λ stop. c.tell_stop.result ≡ stop_status stop) c.stop_of_gen.ensures.value c.tell_stop.ensures.status in
+    subst (λ n. KeepsOf generates words before after n) (sym is)
+    (gen_error_keeps words settings c.in-Some.ensures.value before after refl refl c.in-Err.ensures.cause.later error c.in-Err.ensures.stopped
+    c.in-Err.ensures.cause.rose
+    (subst (λ stop. GrewWithin before.err.taken after.err.taken (stop_line stop)) c.stop_of_gen.ensures.value c.tell_stop.ensures.line)
+    c.tell_stop.ensures.later)

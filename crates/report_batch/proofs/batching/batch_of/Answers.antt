@@ -2,7 +2,7 @@ use Rattle.std.proofs.Common.{sym, ◌∙◌, ap}
 use Rattle.std.specs.BTreeMap.{get}
 use Rattle.std.proofs.lemmas.Map.Iter.{rest_more, rest_all}
 use Rattle.report_batch.specs.Contents.{both}
-use Rattle.report_batch.proofs.Orders.{id_cmp}
+use Rattle.intake_state.proofs.Orders.{id_cmp}
 use Rattle.report_batch.proofs.Joining.{joins-start, joins-more, joins-same, joined-batch}
 use Rattle.report_batch.proofs.batching.batch_of.Goals as goal
 

@@ -1,5 +1,5 @@
 use Rattle.std.specs.BTreeMap.{get}
-use Rattle.report_batch.proofs.Orders.{id_cmp}
+use Rattle.intake_state.proofs.Orders.{id_cmp}
 use Rattle.report_batch.proofs.Joining.{Joins}
 use Rattle.report_batch.proofs.batching.batch_of.Given as goal
 

@@ -1,7 +1,7 @@
 use Rattle.std.proofs.Common.{sym, ◌∙◌, ap}
 use Rattle.std.proofs.lemmas.Bool.{false≢true}
 use Rattle.std.specs.Prelude.{if◌then◌else◌}
-use Rattle.report_batch.proofs.Same.{shares_decide, differ}
+use Rattle.intake_state.proofs.Same.{shares_decide, differ}
 use Rattle.report_batch.specs.declared.content.Content.TheVariants.{One, Clash}
 use Rattle.report_batch.proofs.content.one_if_equal.Goals as goal
 

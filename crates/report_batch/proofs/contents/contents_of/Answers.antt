@@ -2,7 +2,7 @@ use Rattle.std.proofs.Common.{◌≡◌, ℕ, List, ◌∙◌, ap, subst, cond, 
 use Rattle.std.specs.BTreeMap.{get}
 use Rattle.std.specs.Ordering.{is_eq}
 use Rattle.report_batch.specs.Contents.{met}
-use Rattle.report_batch.proofs.Orders.{id_cmp}
+use Rattle.intake_state.proofs.Orders.{id_cmp}
 use Rattle.report_batch.proofs.Entered.{entered}
 use Rattle.report_batch.proofs.contents.contents_of.Goals as goal
 

@@ -1,0 +1,4 @@
+pub mod EvalSteps
+pub mod ReaderSteps
+pub mod AnswerSteps
+pub mod TextSteps

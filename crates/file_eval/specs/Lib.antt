@@ -1,0 +1,3 @@
+pub mod ValueLines
+pub mod Readers
+pub mod Answers

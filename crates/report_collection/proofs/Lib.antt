@@ -1,0 +1,4 @@
+pub mod Lists
+pub mod Permuted
+pub mod Seats
+pub mod Order

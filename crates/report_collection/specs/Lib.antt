@@ -1,0 +1,3 @@
+pub mod Collections
+pub mod Uploads
+pub mod Laws
