@@ -6,4 +6,4 @@
 mod tests;
 mod trial;
 
-pub use crate::trial::{Trial, plan_of};
+pub use crate::trial::{Cut, Trial, plan_of};

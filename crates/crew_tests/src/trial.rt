@@ -1,4 +1,4 @@
-//! The input of a trial: shares made of one byte each, and a plan of them whose conditions are tried.
+//! The input of a trial: shares made of one byte each, a plan of them whose conditions are tried, and its plain sums.
 //! All reports are live.
 
 ghost use Rattle.std.specs.Prelude.{◌≡◌, ◌<◌, ◌≤◌, true, length, IfSome};
@@ -11,8 +11,23 @@ use idpf_eval::{LevelWord, Share, eval_uncounted};
 use phase_state::{Kind, PhasePlan};
 use prefix_bits::{Prefix, ReportId, Side};
 use seed_expand::Seed;
+use sketch_check::{CoinKey, Sums};
 use std::alloc::{AllocError, Global};
 use tile_claims::TilePlan;
+
+/// The seed of the check's coins in each trial.
+const VERIFY: Seed = Seed([7; 32]);
+
+/// How a trial is cut into tiles.
+#[derive(Clone, Copy, Debug, PartialEq, Eq)]
+pub enum Cut {
+    /// A tile for each report and candidate.
+    Single,
+    /// Tiles of two reports by three candidates.
+    Small,
+    /// Tiles of 64 reports by 64 candidates.
+    Large,
+}
 
 /// Shares, their places, and the candidates of level 3.
 #[derive(Drop)]
@@ -40,7 +55,7 @@ fn share_of(alloc: Global, byte: u8) -> Result<Share, AllocError> {
     })
 }
 
-// The bits of a number below 8.
+/// The bits of a number below 8.
 fn prefix_of(number: u8) -> Prefix {
     Prefix::empty()
         .child(number & 4 != 0)
@@ -76,9 +91,40 @@ impl Trial {
         }
         sum
     }
+
+    /// The sums of a share over all candidates, by a plain loop with the coins of their places.
+    pub fn sums(&self, side: Side, share: &Share) -> Sums {
+        let key = CoinKey::of(&VERIFY, &share.id);
+        let mut sums = Sums::zero();
+        for (place, candidate) in self.candidates.iter().enumerate() {
+            if place < 8 && candidate.len() == 3 && share.levels.as_slice().len() >= 3 {
+                let node = eval_uncounted(share, side, candidate);
+                sums = sums.with(key.coin(3, place as u32), node.d, node.e);
+            }
+        }
+        sums
+    }
+
+    //// Whether these are the totals of all candidates, by plain loops.
+    pub fn has_totals(&self, side: Side, totals: &[Fe]) -> bool {
+        let mut same = totals.len() == self.candidates.len();
+        for (total, candidate) in totals.iter().zip(&self.candidates) {
+            same &= *total == self.total(side, candidate);
+        }
+        same
+    }
+
+    //// Whether these are the sums of all shares, by plain loops.
+    pub fn has_sums(&self, side: Side, sums: &[Sums]) -> bool {
+        let mut same = sums.len() == self.shares.len();
+        for (sum, share) in sums.iter().zip(&self.shares) {
+            same &= *sum == self.sums(side, share);
+        }
+        same
+    }
 }
 
-// Whether each share has so many levels.
+/// Whether each share has so many levels.
 fn reach(shares: &[Share], level: u16) -> bool
     ensures { result ≡ true → All (λ s. level ≤ length s.levels) shares.now }
 {
@@ -90,7 +136,7 @@ fn reach(shares: &[Share], level: u16) -> bool
     true
 }
 
-// Whether each candidate has so many bits.
+/// Whether each candidate has so many bits.
 fn are_long(candidates: &[Prefix], level: u16) -> bool
     ensures { result ≡ true → All (λ q. length q ≡ level) candidates.now }
 {
@@ -102,7 +148,7 @@ fn are_long(candidates: &[Prefix], level: u16) -> bool
     true
 }
 
-// Whether each place is below a number.
+/// Whether each place is below a number.
 fn are_below(live: &[u32], count: usize) -> bool
     ensures { result ≡ true → All (λ i. i < count) live.now }
 {
@@ -114,8 +160,8 @@ fn are_below(live: &[u32], count: usize) -> bool
     true
 }
 
-/// The plan of a trial at level 3, in tiles of two reports by three candidates, where it is one.
-pub fn plan_of(trial: &Trial, side: Side, kind: Kind) -> Option<PhasePlan<'_>>
+/// The plan of a trial at level 3, cut so, where it is one.
+pub fn plan_of(trial: &Trial, side: Side, kind: Kind, cut: Cut) -> Option<PhasePlan<'_>>
     ensures { IfSome result (λ plan. IsPhasePlan plan) }
 {
     let shares = trial.shares.as_slice();
@@ -127,14 +173,20 @@ pub fn plan_of(trial: &Trial, side: Side, kind: Kind) -> Option<PhasePlan<'_>>
     if !(reach(shares, 3) && are_long(candidates, 3) && are_below(live, shares.len())) {
         return None;
     }
+    let (reports, count) = (live.len() as u32, candidates.len() as u32);
+    let tiles = match cut {
+        Cut::Single => TilePlan::new(reports, count, 1, 1),
+        Cut::Small => TilePlan::new(reports, count, 2, 3),
+        Cut::Large => TilePlan::new(reports, count, 64, 64),
+    };
     Some(PhasePlan {
         side,
         kind,
         level: 3,
-        verify: Seed([7; 32]),
+        verify: VERIFY,
         shares,
         live,
         candidates,
-        tiles: TilePlan::new(live.len() as u32, candidates.len() as u32, 2, 3),
+        tiles,
     })
 }

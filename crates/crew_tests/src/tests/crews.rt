@@ -1,0 +1,99 @@
+//! Phases of 3 reports by 8 candidates by crews of 1 to 64 workers, in tiles of all sizes, under drills and a hold.
+//! What is swept follows from the drill.
+
+use crate::{Cut, Trial, plan_of};
+use definitions::Side;
+use field64::Fe;
+use gates::{DrillGate, Hold, HoldGate};
+use phase_state::Kind;
+use phase_workers::{Crew, run_both, run_phase};
+use shelf_io::OpenGate;
+use std::alloc::AllocError;
+
+#[test]
+fn drills_and_workers(rt: HostRuntime) -> Result<(), AllocError> {
+    let trial = Trial::new(rt.alloc(), 3, 8)?;
+    for (n, workers, swept) in [(0, 1, 0), (1, 2, 6), (2, 7, 3), (3, 64, 2)] {
+        let made = plan_of(&trial, Side::One, Kind::Totals, Cut::Small);
+        assert!(rt; made.is_some());
+        let Some(plan) = made else { return Ok(()) };
+        let crew = Crew::new(rt.alloc(), plan, workers)?;
+        let gate = DrillGate {
+            n,
+            inner: &OpenGate,
+        };
+        let phase = run_phase(&rt, crew, &gate);
+        assert_eq!(rt; phase.done.tiles, 6);
+        assert_eq!(rt; phase.done.swept, swept);
+        assert!(rt; trial.has_totals(Side::One, phase.finished.totals()));
+    }
+    Ok(())
+}
+
+#[test]
+fn sums_in_tiles_of_all_sizes(rt: HostRuntime) -> Result<(), AllocError> {
+    let trial = Trial::new(rt.alloc(), 3, 8)?;
+    for (cut, workers, tiles) in [
+        (Cut::Single, 4, 24),
+        (Cut::Small, 1, 6),
+        (Cut::Small, 4, 6),
+        (Cut::Large, 4, 1),
+    ] {
+        let made = plan_of(&trial, Side::Zero, Kind::Sketch, cut);
+        assert!(rt; made.is_some());
+        let Some(plan) = made else { return Ok(()) };
+        let crew = Crew::new(rt.alloc(), plan, workers)?;
+        let phase = run_phase(&rt, crew, &OpenGate);
+        assert_eq!(rt; phase.done.tiles, tiles);
+        assert!(rt; trial.has_sums(Side::Zero, phase.finished.sums()));
+    }
+    Ok(())
+}
+
+#[test]
+fn a_phase_without_reports(rt: HostRuntime) -> Result<(), AllocError> {
+    let trial = Trial::new(rt.alloc(), 0, 8)?;
+    let made = plan_of(&trial, Side::Zero, Kind::Totals, Cut::Small);
+    assert!(rt; made.is_some());
+    let Some(plan) = made else { return Ok(()) };
+    let crew = Crew::new(rt.alloc(), plan, 2)?;
+    let phase = run_phase(&rt, crew, &OpenGate);
+    assert_eq!(rt; phase.done.tiles, 0);
+    assert_eq!(rt; phase.done.swept, 0);
+    let totals = phase.finished.totals();
+    assert_eq!(rt; totals.len(), 8);
+    assert!(rt; totals.iter().all(|total| *total == Fe::zero()));
+    Ok(())
+}
+
+#[test]
+fn both_sides_at_once(rt: HostRuntime) -> Result<(), AllocError> {
+    let trial = Trial::new(rt.alloc(), 3, 8)?;
+    let zero = plan_of(&trial, Side::Zero, Kind::Totals, Cut::Small);
+    let one = plan_of(&trial, Side::One, Kind::Totals, Cut::Single);
+    assert!(rt; zero.is_some() && one.is_some());
+    let (Some(zero), Some(one)) = (zero, one) else {
+        return Ok(());
+    };
+    let zero = Crew::new(rt.alloc(), zero, 2)?;
+    let one = Crew::new(rt.alloc(), one, 3)?;
+    let (zero, one) = run_both(&rt, zero, one, &OpenGate);
+    assert!(rt; trial.has_totals(Side::Zero, zero.finished.totals()));
+    assert!(rt; trial.has_totals(Side::One, one.finished.totals()));
+    Ok(())
+}
+
+#[test]
+fn two_workers_meet(rt: HostRuntime) -> Result<(), AllocError> {
+    let trial = Trial::new(rt.alloc(), 3, 8)?;
+    let made = plan_of(&trial, Side::Zero, Kind::Totals, Cut::Small);
+    assert!(rt; made.is_some());
+    let Some(plan) = made else { return Ok(()) };
+    let crew = Crew::new(rt.alloc(), plan, 2)?;
+    let gate = HoldGate::new(Side::Zero, Hold::Tile);
+    let phase = run_phase(&rt, crew, &gate);
+    assert!(rt; gate.asked());
+    assert!(rt; gate.met());
+    assert_eq!(rt; phase.done.swept, 0);
+    Ok(())
+}
