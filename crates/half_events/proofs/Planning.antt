@@ -1,15 +1,13 @@
 -- A side's plan of a phase.
-use Rattle.std.proofs.Common.{◌≡◌, ℕ, zero, suc, ◌+◌, ◌*◌, ◌<◌, ◌≤◌, ◌^◌, List, [], ◌∷◌, length, map, get_or, refl, sym, ◌∙◌, ap, subst, arith}
-use Rattle.std.specs.List.{All, AllByRecursion}
+use Rattle.std.proofs.Common.{◌≡◌, ℕ, zero, suc, ◌*◌, ◌<◌, ◌≤◌, ◌^◌, List, [], ◌∷◌, length, map, get_or, sym, ◌∙◌, ap, subst, arith}
+use Rattle.std.specs.List.{All}
 use Rattle.std.proofs.lemmas.List.{length-map}
 use Rattle.definitions.specs.declared.Side.{Side}
-use Rattle.definitions.specs.Evaluation.{Share}
 use Rattle.walk_definitions.specs.Reports.{Report, held}
 use Rattle.tile_claims.specs.Plans as plans
-use Rattle.core_definitions.specs.Phase as phase
 use Rattle.core_definitions.specs.Phase.{CoreSettings, ArePlaces}
 use Rattle.phase_state.specs.declared.phase_plan.PlanSeen.{PlanSeen}
-use Rattle.phase_state.specs.Sums.{IsPhasePlan, cut}
+use Rattle.phase_state.specs.Sums.{cut}
 use Rattle.half_events.specs.Settings.{AreUsable}
 use Rattle.half_events.specs.Stages.{StageSeen, IsStage, IsPlanOf, phase_at, kind_of}
 use Rattle.half_events.proofs.Tiling.{tiles-most}

@@ -1,5 +1,5 @@
 -- One side of a phase, through what happens at it.
-use Rattle.std.proofs.Common.{◌≡◌, ℕ, ◌+◌, ◌<◌, ◌≤◌, List, length, map, refl, sym, ◌∙◌, ap, subst, arith}
+use Rattle.std.proofs.Common.{◌≡◌, ℕ, ◌<◌, ◌≤◌, sym, ◌∙◌, ap, subst, arith}
 use Rattle.definitions.specs.declared.Side.{Side}
 use Rattle.tile_claims.specs.Plans as plans
 use Rattle.core_definitions.specs.declared.hand.Hand.TheVariants.{Holding}
@@ -8,7 +8,6 @@ use Rattle.core_definitions.specs.Phase.{CoreSettings, Phase, HalfEvent, HalfKep
 use Rattle.core_definitions.specs.Tiles.{tiles}
 use Rattle.core_definitions.proofs.PhaseSteps.{kept-event, freed-none}
 use Rattle.phase_state.specs.declared.phase_plan.PlanSeen.{PlanSeen}
-use Rattle.phase_state.specs.Sums.{cut}
 use Rattle.phase_state.proofs.Cutting.{count_is}
 use Rattle.half_events.specs.declared.halves.Half.{Half}
 use Rattle.half_events.specs.Caches.{IsTrueCache}

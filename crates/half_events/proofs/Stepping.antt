@@ -1,6 +1,6 @@
 -- What happens at one side is the definitions' event.
-use Rattle.std.proofs.Common.{◌≡◌, ℕ, zero, suc, ◌+◌, ◌<◌, ◌≤◌, Bool, true, false, List, [], ◌∷◌, ◌++◌, length, map, Option, Some, None, refl, sym, ◌∙◌, ap, subst, arith}
-use Rattle.std.specs.Prelude.{if◌then◌else◌, ◌&&◌, nat_eq, nat_lt, nat_le, slice_set}
+use Rattle.std.proofs.Common.{◌≡◌, ℕ, Bool, true, false, List, [], ◌∷◌, ◌++◌, length, map, Option, Some, None, refl, sym, ◌∙◌, ap}
+use Rattle.std.specs.Prelude.{if◌then◌else◌, nat_eq, slice_set}
 use Rattle.std.specs.List.{list_all}
 use Rattle.std.proofs.lemmas.List.{length-map}
 use Rattle.definitions.specs.declared.Side.{Side}
@@ -13,7 +13,7 @@ use Rattle.core_definitions.specs.Phase.{CoreSettings, Phase, CacheEntry, Half, 
 use Rattle.core_definitions.specs.System.{fresh_half, hands_of}
 use Rattle.core_definitions.specs.Tiles.{tiles}
 use Rattle.core_definitions.proofs.PhaseSteps.{kept-event}
-use Rattle.core_definitions.proofs.Carry.{no-values, kept-fresh}
+use Rattle.core_definitions.proofs.Carry.{no-values}
 use Rattle.phase_state.specs.Sums.{share_at}
 use Rattle.half_events.specs.Crews.{crew}
 use Rattle.half_events.specs.Caches as caches

@@ -5,7 +5,8 @@ use Rattle.definitions.specs.declared.Side.{Side}
 use Rattle.core_definitions.specs.declared.hand.Hand.{Hand}
 use Rattle.core_definitions.specs.declared.hand.Hand.TheVariants.{Free, Holding, Finished}
 use Rattle.core_definitions.specs.Phase as phase
-use Rattle.core_definitions.specs.Phase.{CoreSettings, Phase, CacheEntry, Posting, values_of_tiles, plain_node, posted_count, unposted, hand_at, is_finished, HalfKept}
+use Rattle.core_definitions.specs.Phase.{CoreSettings, Phase, CacheEntry, Posting, HalfKept, values_of_tiles, plain_node}
+use Rattle.core_definitions.specs.Phase.{posted_count, unposted, hand_at, is_finished}
 use Rattle.phase_state.specs.declared.phase_plan.PlanSeen.{PlanSeen}
 use Rattle.half_events.specs.declared.halves.Half.{Half}
 use Rattle.half_events.specs.Stages.{IsPlanOf}

@@ -42,7 +42,8 @@ fn drawn(number: u32, tiles: u32) -> Hand
 /// A worker draws the next number, `counter`, where its hand is free. The answer is the next number afterwards.
 pub fn claim(hands: &mut Vec<Hand>, counter: u32, tiles: u32, worker: u32) -> u32
     requires room { counter < 2 ^ 31 }
-    ensures hands { hands.new.items ≡ (claimed tiles worker (hand_at hands.old.items worker) (crew counter hands.old.items)).hands }
+    ensures hands { hands.new.items
+        ≡ (claimed tiles worker (hand_at hands.old.items worker) (crew counter hands.old.items)).hands }
     ensures counter { result ≡ (claimed tiles worker (hand_at hands.old.items worker) (crew counter hands.old.items)).counter }
 {
     match hand_of(hands, worker) {

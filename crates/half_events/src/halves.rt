@@ -1,7 +1,7 @@
 //! One side of a phase: its workers, its cache, and what is posted.
-//! Each step is the definitions' event of that side.
+//! Each step is the event of its name in `core_definitions`, at that side.
 
-ghost use Rattle.std.specs.Prelude.{◌≡◌, ◌&&◌, is_none, ℕ, ◌+◌, ◌<◌, ◌≤◌, ◌^◌, length, IfOk, OnOk};
+ghost use Rattle.std.specs.Prelude.{◌≡◌, ℕ, ◌+◌, ◌<◌, ◌≤◌, ◌^◌, length, IfOk, OnOk};
 ghost use Rattle.std.specs.List.{All};
 ghost use Rattle.prefix_bits.specs.declared.TheConstants.{MOST_BITS};
 ghost use Rattle.definitions.specs.declared.Side.{Side};
@@ -29,22 +29,24 @@ use phase_state::{Kind, Part, PhasePlan, PhaseState};
 use prefix_bits::Prefix;
 use std::alloc::{AllocError, Global};
 
-/// One side of a phase.
+/// One side of a phase. Contracts see it by `half_seen`, as the side of that name in `core_definitions`: what is added up is
+/// read off the log of what is posted.
 #[derive(Drop)]
 pub struct Half<'a> {
     /// The side's plan.
     pub plan: PhasePlan<'a>,
     /// What is posted.
     pub state: PhaseState<'a>,
-    /// The number that the next claim draws.
+    /// The number that the next claim draws: how many were drawn so far.
     pub counter: u32,
-    /// What each worker has in hand.
+    /// What each worker has in hand, at its number.
     pub hands: Vec<Hand>,
-    /// The side's cache.
+    /// The side's cache, the newest entry first. Each entry is what the evaluation from the root gives.
     pub cache: Vec<CacheEntry>,
 }
 
-/// A side at the beginning of a phase: nothing is drawn, held or posted. `AllocError` is want of memory.
+/// A side at the beginning of a phase: nothing is drawn, held or posted, and the cache is the one given, whose entries must be
+/// true. `AllocError` is want of memory, and the cache is then gone.
 pub fn begin_half<'a>(
     alloc: Global,
     settings: &CoreSettings,
@@ -163,7 +165,8 @@ fn post(alloc: Global, half: &mut Half<'_>, worker: u32) -> Result<(), AllocErro
     requires some { 1 ≤ half.old.plan.level }
     requires cached { IsTrueCache half.old.plan.shares half.old.plan.side half.old.cache.items }
     requires held { (k : ℕ) → hand_at half.old.hands.items worker ≡ Holding k → k < tiles_of half.old.plan.tiles }
-    ensures only { OnOk result (IsOnly half.old.plan half.old.counter (hands_posted worker half.old.hands.items) half.old.cache.items half.new) }
+    ensures only { OnOk result (IsOnly half.old.plan half.old.counter (hands_posted worker half.old.hands.items)
+        half.old.cache.items half.new) }
     ensures log { OnOk result (half.new.state.log ≡ log_posted worker half.old.hands.items half.old.state.log) }
 {
     if let Hand::Holding(tile) = hand_of(&half.hands, worker) {
@@ -193,7 +196,10 @@ fn sweep(alloc: Global, half: &mut Half<'_>, workers: u32) -> Result<(), AllocEr
     Ok(())
 }
 
-/// What happens at one side in a phase.
+/// What happens at one side in a phase: exactly the definition's event. An event that is not enabled where it comes changes
+/// nothing, as a post by a worker that holds no tile, or a sweep while a worker has not been told that there is no further
+/// tile. The stage must be that of the side's plan. `AllocError` is want of memory in a fill, a post or a sweep: nothing is
+/// said of the side then, and it is to be dropped.
 pub fn step_half(
     alloc: Global,
     settings: &CoreSettings,

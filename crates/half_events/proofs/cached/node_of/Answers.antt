@@ -1,5 +1,5 @@
-use Rattle.std.proofs.Common.{◌≡◌, ◌≤◌, sym, ◌∙◌, ap, get_or, length, arith}
-use Rattle.definitions.specs.Evaluation.{Share, Node}
+use Rattle.std.proofs.Common.{◌≡◌, ◌≤◌, sym, ◌∙◌, ap, get_or, length}
+use Rattle.definitions.specs.Evaluation.{Share}
 use Rattle.core_definitions.specs.Phase.{no_share, parent}
 use Rattle.phase_state.specs.declared.phase_plan.PlanSeen.{PlanSeen}
 use Rattle.phase_state.specs.Sums.{share_at}

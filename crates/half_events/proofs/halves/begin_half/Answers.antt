@@ -1,4 +1,4 @@
-use Rattle.std.proofs.Common.{◌≡◌, [], sym, ◌∙◌, ap, subst}
+use Rattle.std.proofs.Common.{sym, ◌∙◌, ap, subst}
 use Rattle.core_definitions.specs.Phase.{CoreSettings, HalfKept}
 use Rattle.core_definitions.specs.System.{hands_of}
 use Rattle.core_definitions.proofs.Carry.{kept-fresh}

@@ -1,4 +1,4 @@
-use Rattle.std.proofs.Common.{rules, ◌<◌, ◌≤◌, sym, ◌∙◌, ap, length, arith}
+use Rattle.std.proofs.Common.{rules, ◌<◌, ◌≤◌, sym, ◌∙◌, ap, length}
 use Rattle.std.specs.Prelude.{is_none}
 use Rattle.half_events.proofs.Entries.{may-be}
 use Rattle.half_events.proofs.halves.may_fill.Goals as goal

@@ -1,9 +1,6 @@
-use Rattle.std.proofs.Common.{◌≡◌, ℕ, List, refl, sym, ◌∙◌, ap, arith}
-use Rattle.core_definitions.specs.declared.hand.Hand.{Hand}
-use Rattle.core_definitions.specs.Phase as phase
-use Rattle.core_definitions.specs.Phase.{CoreSettings, half_after, hand_at, claimed, abandoned}
+use Rattle.std.proofs.Common.{refl, sym, ◌∙◌, ap}
+use Rattle.core_definitions.specs.Phase.{CoreSettings, half_after}
 use Rattle.tile_claims.specs.Plans.{tiles_of}
-use Rattle.half_events.specs.Crews.{crew}
 use Rattle.half_events.specs.Caches.{filled}
 use Rattle.half_events.specs.Steps.{step_of}
 use Rattle.half_events.specs.Halves.{half_seen, log_swept}

@@ -1,5 +1,4 @@
-use Rattle.std.proofs.Common.{◌≡◌, ◌<◌, sym, ◌∙◌, arith}
-use Rattle.tile_claims.specs.Plans.{tiles_of}
+use Rattle.std.proofs.Common.{sym, ◌∙◌, arith}
 use Rattle.core_definitions.proofs.Hands.{unposted-some}
 use Rattle.half_events.proofs.halves.sweep.Goals as goal
 

@@ -1,9 +1,9 @@
-use Rattle.std.proofs.Common.{rules, ◌≡◌, ◌<◌, ◌≤◌, ◌+◌, ◌∙◌, ap, sym, get_or, take, length, arith}
-use Rattle.std.specs.Prelude.{List, Bool, map}
+use Rattle.std.proofs.Common.{◌≡◌, ◌<◌, ◌≤◌, ◌+◌, ◌∙◌, ap, sym, get_or, length, arith}
+use Rattle.std.specs.Prelude.{List, Bool}
 use Rattle.std.proofs.lemmas.List.{get_or_read}
 use Rattle.definitions.specs.Field.{mul}
 use Rattle.definitions.specs.Evaluation.{Node, Share}
-use Rattle.definitions.specs.Sketch.{Sums, coin_key, coin_at, squared, weighted}
+use Rattle.definitions.specs.Sketch.{coin_key, coin_at, squared}
 use Rattle.core_definitions.specs.Phase.{no_share}
 use Rattle.phase_state.specs.declared.phase_plan.PlanSeen.{PlanSeen}
 use Rattle.phase_state.specs.Sums.{coins_of, nodes_of, share_at}

@@ -1,4 +1,4 @@
-use Rattle.std.proofs.Common.{◌≡◌, suc, ◌+◌, ◌∙◌, ap, sym, refl, length, map, arith}
+use Rattle.std.proofs.Common.{◌∙◌, ap, refl, length, map, arith}
 use Rattle.walk_definitions.specs.Reports.{Report, held}
 use Rattle.tile_claims.specs.Plans as plans
 use Rattle.prefix_bits.specs.declared.TheConstants.{MOST_BITS}
