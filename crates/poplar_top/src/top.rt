@@ -98,6 +98,7 @@ fn run_command<R: Threads + Wait + Sync, H: Shelf, K: Sink, E: Sink, L: Link, G:
     };
     let rules = RunRules {
         threshold: asked.threshold,
+        uploaders: asked.uploaders,
         cap: asked.cap,
         verify: asked.verify,
     };
@@ -110,7 +111,7 @@ fn run_command<R: Threads + Wait + Sync, H: Shelf, K: Sink, E: Sink, L: Link, G:
 /// The program: the words behind its name, a shelf for its files, sinks for its output and its lines, and the link and the gate
 /// that a walk uses. The first word is the command: `eval`, `gen` or `run`; every other is usage.
 ///
-/// `run --threshold N [--cap N] [--verify SEED] FILE0 FILE1` reads side 0's share file whole, then side 1's, and walks the
+/// `run --threshold N [--uploaders N] [--cap N] [--verify SEED] FILE0 FILE1` reads side 0's share file whole, then side 1's, and walks the
 /// reports that both hold without clash over the link: out gets the frequent strings with their counts, ascending, and err a line
 /// for each malformed record and one for the end of the walk. The statuses of `run`, in the order of their causes: 2, the words
 /// give no settings; 3, a share file is not there, too long, with a wrong header or cut, side 1's only where side 0's is whole;
