@@ -1,46 +1,18 @@
 -- The texts of `eval` over one more record, and over all of them.
-use Rattle.std.proofs.Common.{◌≡◌, ℕ, zero, suc, ◌+◌, ◌*◌, ◌<◌, ◌≤◌, Bool, List, [], ◌∷◌, ◌++◌, Some, length, take, refl, sym, ◌∙◌, ap, arith, append-nil, append_assoc, length-append, add-one}
+use Rattle.std.proofs.Common.{◌≡◌, ℕ, ◌+◌, ◌*◌, ◌<◌, ◌≤◌, Bool, List, [], ◌∷◌, ◌++◌, Some, length, take, refl, sym, ◌∙◌, ap, arith, append-nil}
 use Rattle.std.specs.Prelude.{slice_get}
 use Rattle.std.specs.List.{flat_map}
-use Rattle.std.proofs.lemmas.List.{take_all}
-use Rattle.std.proofs.lemmas.Option.{slice_get-get_or}
+use Rattle.std.proofs.lemmas.List.{length-take}
+use Rattle.std.proofs.lemmas.List.Concat.{flat_map-append}
+use Rattle.std.proofs.lemmas.Option.{slice_get-get_or, slice_get_within}
+use Rattle.share_format.proofs.CallerLaws.{one_more, shares_of-append, malformed_from-append}
 use Rattle.definitions.specs.declared.Side.{Side}
 use Rattle.share_format.specs.declared.records.Record.{Record}
 use Rattle.share_format.specs.declared.records.Record.TheVariants as given
 use Rattle.share_format.specs.Answers.{answer, record_answer, IsGiven}
-use Rattle.share_format.specs.ShareFile.{RecordCase, well_formed, malformed, shares_of, malformed_from, records, first_records, record_count}
+use Rattle.share_format.specs.ShareFile.{RecordCase, well_formed, malformed, shares_of, malformed_from}
 use Rattle.answer_text.specs.RefusedText.{refused_line}
 use Rattle.file_eval.specs.ValueLines.{value_line, value_lines, refused_lines, given_value, given_refusal, IsShort}
-
-flat_map-append : {X Y : Type 0} (f : X → List Y) (xs ys : List X) → flat_map f (xs ++ ys) ≡ flat_map f xs ++ flat_map f ys
-flat_map-append f [] ys = refl
-flat_map-append f (x ∷ xs) ys = ap (λ zs. f x ++ zs) (flat_map-append f xs ys) ∙ sym (append_assoc (f x) (flat_map f xs) (flat_map f ys))
-
-shares_of-append : (xs ys : List RecordCase) → shares_of (xs ++ ys) ≡ shares_of xs ++ shares_of ys
-shares_of-append [] ys = refl
-shares_of-append (well_formed share ∷ xs) ys = ap (λ ss. share ∷ ss) (shares_of-append xs ys)
-shares_of-append (malformed ∷ xs) ys = shares_of-append xs ys
-
-malformed_from-append : (first : ℕ) (xs ys : List RecordCase)
-    → malformed_from first (xs ++ ys) ≡ malformed_from first xs ++ malformed_from (first + length xs) ys
-malformed_from-append first [] ys = let same : first ≡ first + 0 = omega arith in ap (λ n. malformed_from n ys) same
-malformed_from-append first (well_formed share ∷ xs) ys =
-    let same : suc first + length xs ≡ first + suc (length xs) = omega arith in
-    malformed_from-append (suc first) xs ys ∙ ap (λ n. malformed_from (suc first) xs ++ malformed_from n ys) same
-malformed_from-append first (malformed ∷ xs) ys =
-    let same : suc first + length xs ≡ first + suc (length xs) = omega arith in
-    ap (λ ns. first ∷ ns) (malformed_from-append (suc first) xs ys ∙ ap (λ n. malformed_from (suc first) xs ++ malformed_from n ys) same)
-
--- one more of a list, where there is one
-take-one : {X : Type 0} (k : ℕ) (xs : List X) (x : X) → slice_get xs k ≡ Some x → take (suc k) xs ≡ take k xs ++ x ∷ []
-take-one k [] x e = cc
-take-one zero (y ∷ xs) x e = cc
-take-one (suc k) (y ∷ xs) x e = ap (λ ys. y ∷ ys) (take-one k xs x e)
-
-length-take-at : {X : Type 0} (k : ℕ) (xs : List X) (x : X) → slice_get xs k ≡ Some x → length (take k xs) ≡ k
-length-take-at k [] x e = cc
-length-take-at zero (y ∷ xs) x e = refl
-length-take-at (suc k) (y ∷ xs) x e = let rest = length-take-at k xs x e in omega arith
 
 -- ---- one more record
 
@@ -58,7 +30,7 @@ values-case : (side : Side) (prefix : List Bool) (k : ℕ) (cases : List RecordC
     → value_lines side prefix (take (k + 1) cases) ≡ value_lines side prefix (take k cases) ++ given_value side prefix (record_answer k cases)
 unfolding value_lines
 values-case side prefix k cases c e =
-    ap (λ cs. flat_map (value_line side prefix) (shares_of cs)) (ap (λ n. take n cases) (add-one k) ∙ take-one k cases c e)
+    ap (λ cs. flat_map (value_line side prefix) (shares_of cs)) (one_more cases k c e)
     ∙ ap (flat_map (value_line side prefix)) (shares_of-append (take k cases) (c ∷ []))
     ∙ flat_map-append (value_line side prefix) (shares_of (take k cases)) (shares_of (c ∷ []))
     ∙ ap (λ line. flat_map (value_line side prefix) (shares_of (take k cases)) ++ line)
@@ -68,8 +40,9 @@ refusals-case : (side : Side) (k : ℕ) (cases : List RecordCase) (c : RecordCas
     → refused_lines side (take (k + 1) cases) ≡ refused_lines side (take k cases) ++ given_refusal side (record_answer k cases)
 unfolding refused_lines
 refusals-case side k cases c e =
-    let at : 0 + length (take k cases) ≡ k = omega (arith, length-take-at k cases c e) in
-    ap (λ cs. flat_map (refused_line side) (malformed_from 0 cs)) (ap (λ n. take n cases) (add-one k) ∙ take-one k cases c e)
+    let inside = slice_get_within cases k c e in
+    let at : 0 + length (take k cases) ≡ k = omega (arith, length-take k cases, inside) in
+    ap (λ cs. flat_map (refused_line side) (malformed_from 0 cs)) (one_more cases k c e)
     ∙ ap (flat_map (refused_line side)) (malformed_from-append 0 (take k cases) (c ∷ []))
     ∙ flat_map-append (refused_line side) (malformed_from 0 (take k cases)) (malformed_from (0 + length (take k cases)) (c ∷ []))
     ∙ ap (λ n. flat_map (refused_line side) (malformed_from 0 (take k cases)) ++ flat_map (refused_line side) (malformed_from n (c ∷ []))) at
@@ -100,19 +73,5 @@ pub refusals-none : (side : Side) (cases : List RecordCase) → refused_lines si
 unfolding refused_lines
 refusals-none side [] = refl
 refusals-none side (c ∷ cases) = refl
-
--- ---- all records
-
-length-first_records : (width : ℕ) (bytes : List ℕ) (count : ℕ) → length (first_records width bytes count) ≡ count
-unfolding first_records
-length-first_records width bytes zero = refl
-length-first_records width bytes (suc count) =
-    length-append (first_records width bytes count) (_ ∷ []) ∙ (let before = length-first_records width bytes count in omega arith)
-
-pub length-records : (width : ℕ) (bytes : List ℕ) → length (records width bytes) ≡ record_count width bytes
-length-records width bytes = length-first_records width bytes (record_count width bytes)
-
-pub all_records : (width : ℕ) (bytes : List ℕ) (k : ℕ) → record_count width bytes ≡ k → take k (records width bytes) ≡ records width bytes
-all_records width bytes k e = take_all k (records width bytes) (omega (arith, length-records width bytes, e))
 
 pub ruleset text_steps = (values-none, refusals-none)

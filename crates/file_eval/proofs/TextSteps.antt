@@ -9,7 +9,7 @@ use Rattle.share_format.specs.Readings.{Reading, Fits, advanced}
 use Rattle.share_format.specs.declared.records.Record.{Record}
 use Rattle.share_format.specs.declared.records.Record.TheVariants as given
 use Rattle.share_format.specs.Answers.{answer, record_answer}
-use Rattle.file_eval.proofs.EvalSteps.{length-records, all_records}
+use Rattle.share_format.proofs.FileLaws.{length-records, all_records}
 
 some_all : {X : Type 0} (o : Option X) (P : X → Type 0) → ((x : X) → P x) → IfSome o P
 some_all None P f = tt

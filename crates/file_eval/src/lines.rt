@@ -9,7 +9,7 @@ use idpf_eval::{Node, Share, eval_uncounted};
 use prefix_bits::{Prefix, ReportId, Side};
 use std::alloc::{AllocError, Global};
 
-// An id in hexadecimal digits and a node's value.
+/// An id in hexadecimal digits and a node's value.
 fn node_text(alloc: Global, id: &ReportId, node: &Node) -> Result<String, AllocError>
     ensures line { IfOk result (λ line. string_bytes line ≡ node_line id.now node.now) }
 {

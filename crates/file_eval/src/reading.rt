@@ -21,7 +21,7 @@ use share_format::{Record, RecordReader};
 use shelf_io::Shelf;
 use std::alloc::{AllocError, Global};
 
-// Adds to the texts what a reader gave.
+/// Adds to the texts what a reader gave.
 fn add_given(
     alloc: Global,
     given: &Record,
@@ -46,7 +46,7 @@ fn add_given(
     }
 }
 
-// Reads the next record and adds it to the texts. Tells whether there was one.
+/// Reads the next record and adds it to the texts. Tells whether there was one.
 #[tactic(auto, using(crate::proofs::ReaderSteps::reader_steps))]
 fn add_next<H: Shelf>(
     alloc: Global,
@@ -78,7 +78,7 @@ fn add_next<H: Shelf>(
     Ok(is_more(&given))
 }
 
-// Whether a reader gave a record.
+/// Whether a reader gave a record.
 fn is_more(given: &Record) -> bool
     ensures value { result ≡ is_more given.now }
 {
@@ -88,7 +88,7 @@ fn is_more(given: &Record) -> bool
     }
 }
 
-// The texts of all records, from a reader that stands before the first.
+/// The texts of all records, from a reader that stands before the first.
 #[tactic(auto, using(crate::proofs::EvalSteps::text_steps))]
 fn all_texts<H: Shelf>(
     alloc: Global,

@@ -32,7 +32,7 @@ pub fn reply_after(log: &[Entry], before: Option<First>, share: &Share) -> Reply
     }
 }
 
-// The reply to a share of whose id this is known, where this is its first entry.
+/// The reply to a share of whose id this is known, where this is its first entry.
 fn reply_by(first: First, entry: &Entry, share: &Share) -> Reply
     ensures { result ≡ (if not first.clashed && same_share entry.now.share share.now then Repeat else Clash) }
 {

@@ -1,17 +1,11 @@
 -- A list of rows, to each of which one more is added.
-use Rattle.std.proofs.Common.{◌≡◌, ℕ, zero, suc, ◌+◌, List, [], ◌∷◌, ◌++◌, length, map, refl, sym, ap, ◌∙◌, arith}
+use Rattle.std.proofs.Common.{◌≡◌, ℕ, suc, ◌+◌, List, [], ◌∷◌, ◌++◌, length, map, refl, sym, ap, ◌∙◌, arith}
 use Rattle.std.specs.List.{AllByRecursion, range_with_len}
 use Rattle.std.proofs.lemmas.List.{map-append}
+use Rattle.list_totals.proofs.Elements.{further}
 use Rattle.turn_lock.specs.Seen.{LockId, LockSeen, PassSeen, fresh_pass, fresh_passes}
 use Rattle.lock_row.specs.Rows.{fresh_row, fresh_rows, plans_of, locks_of}
 use Rattle.lock_row.specs.Columns.{each_more}
-
--- a further number, at the end of those from a on
-pub further : {X : Type 0} (f : ℕ → X) (a n : ℕ) → map f (range_with_len a n) ++ f (a + n) ∷ [] ≡ map f (range_with_len a (suc n))
-further f a zero = let e : a + 0 ≡ a = omega arith in ap (λ k. f k ∷ []) e
-further f a (suc n) =
-    let e : a + suc n ≡ a + 1 + n = omega arith in
-    ap (λ l. f a ∷ l) (ap (λ k. map f (range_with_len (a + 1) n) ++ f k ∷ []) e ∙ further f (a + 1) n)
 
 -- a list of nothing but empty lists, one longer
 pub empties : {X : Type 0} (f : ℕ → List X) → ((k : ℕ) → f k ≡ []) → (n : ℕ) → map f (range_with_len 0 n) ++ [] ∷ [] ≡ map f (range_with_len 0 (n + 1))

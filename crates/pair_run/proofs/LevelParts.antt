@@ -1,17 +1,16 @@
 -- A level from its three parts, as it is heard, and on a true link.
-use Rattle.std.proofs.Common.{◌≡◌, ℕ, Bool, cond, List, [], ◌∷◌, ◌++◌, refl, sym, ◌∙◌, ap, subst}
-use Rattle.std.specs.Prelude.{Option, map, ◌==◌}
-use Rattle.std.specs.List.{filter}
+use Rattle.std.proofs.Common.{◌≡◌, ℕ, Bool, List, ◌++◌, refl, sym, ◌∙◌, ap, subst}
+use Rattle.std.specs.Prelude.{Option, map}
 use Rattle.definitions.specs.declared.Side.{Side}
 use Rattle.definitions.specs.declared.Side.TheVariants.{Zero, One}
 use Rattle.definitions.specs.Field.{add}
 use Rattle.definitions.specs.Sketch.{Sums, sums_added}
-use Rattle.definitions.proofs.FieldLaws.{add_comm}
 use Rattle.shelf_io.specs.Talks.{Talk}
 use Rattle.walk_definitions.specs.Reports.{Report}
-use Rattle.walk_definitions.specs.Walk.{Settings, End, own_sums, own_sigma, opened, sigma_sum, own_total, total, live_after}
+use Rattle.walk_definitions.specs.Walk.{Settings, End, own_sums, opened, own_total, total, live_after}
 use Rattle.walk_definitions.specs.Messages.{Message, flat, both_send, sigmas_of, totals_of, level_messages}
 use Rattle.walk_definitions.specs.Heard.{paired, kept, sigmas, heard_level}
+use Rattle.walk_definitions.proofs.TrueLink.{paired-maps, opened_is, opened_too, sigmas_are, live_is}
 use Rattle.pair_run.specs.declared.answers.PairError.{PairError}
 use Rattle.pair_run.specs.Failures.{Stops}
 use Rattle.pair_run.specs.Levels.{stage_of}
@@ -82,29 +81,6 @@ module _ (settings : Settings) (level : ℕ) (candidates : List (List Bool)) (li
       as_whole t0 t3 e (stops_second first_part behind_opening t0 t1 t3 opened e first
       (stops_second (check opened) last t1 t2 t3 passed e second (stops_as (totalling level candidates passed) (last passed) t2 t3 e (last_ends passed) h)))
 
--- ---- lists
-
-paired-maps : {X Y Z W : Type 0} (f : X → Y → Z) (g : W → X) (h : W → Y) (ws : List W) → paired f (map g ws) (map h ws) ≡ map (λ w. f (g w) (h w)) ws
-paired-maps f g h [] = refl
-paired-maps f g h (w ∷ ws) = ap (λ r. f (g w) (h w) ∷ r) (paired-maps f g h ws)
-
-paired-map : {X Y Z : Type 0} (f : X → Y → Z) (h : X → Y) (xs : List X) → paired f xs (map h xs) ≡ map (λ x. f x (h x)) xs
-paired-map f h [] = refl
-paired-map f h (x ∷ xs) = ap (λ r. f x (h x) ∷ r) (paired-map f h xs)
-
-kept-filter : (n : Report → ℕ) (rs : List Report) → kept rs (map n rs) ≡ filter (λ r. n r == 0) rs
-kept-filter n [] = refl
-kept-filter n (r ∷ rs) = ap (λ t. cond (n r == 0) (r ∷ t) t) (kept-filter n rs)
-
-sums-comm : (s t : Sums) → sums_added s t ≡ sums_added t s
-sums-comm s t = let x = add_comm s.x t.x in let y = add_comm s.y t.y in let z = add_comm s.z t.z in cc
-
-sums_swap : (ss ts : List Sums) → paired sums_added ts ss ≡ paired sums_added ss ts
-sums_swap [] [] = refl
-sums_swap [] (t ∷ ts) = refl
-sums_swap (s ∷ ss) [] = refl
-sums_swap (s ∷ ss) (t ∷ ts) = let first = sums-comm t s in let rest = sums_swap ss ts in cc
-
 module _ (settings : Settings) (level : ℕ) (candidates : List (List Bool)) (live : List Report) where
   -- ---- on a true link
 
@@ -117,30 +93,23 @@ module _ (settings : Settings) (level : ℕ) (candidates : List (List Bool)) (li
   abbrev passed_here : List Report
   passed_here = live_after settings level (stage_of live candidates)
 
-  opened_is : paired sums_added (stage_here Zero) (stage_here One) ≡ opened_here
-  opened_is = paired-maps sums_added (own_sums settings level candidates Zero) (own_sums settings level candidates One) live
-
-  opened_too : paired sums_added (stage_here One) (stage_here Zero) ≡ opened_here
-  opened_too = sums_swap (stage_here Zero) (stage_here One) ∙ opened_is
-
-  sigmas_are : (side : Side) (ops : List Sums) → ops ≡ opened_here → sigmas level side live ops ≡ sigmas_of settings level (stage_of live candidates) side
-  sigmas_are side ops e = ap (sigmas level side live) e ∙ paired-map (own_sigma level side) (opened settings level candidates) live
+  sigmas_here : (side : Side) (ops : List Sums) → ops ≡ opened_here → sigmas level side live ops ≡ sigmas_of settings level (stage_of live candidates) side
+  sigmas_here side ops e = ap (sigmas level side live) e ∙ sigmas_are settings level (stage_of live candidates) side
 
   both_sigmas : (opened0 opened1 : List Sums) → opened0 ≡ paired sums_added (stage_here Zero) (stage_here One) → opened1 ≡ paired sums_added (stage_here One) (stage_here Zero)
       → both_send 2 level (sigmas level Zero live opened0) (sigmas level One live opened1)
       ≡ both_send 2 level (sigmas_of settings level (stage_of live candidates) Zero) (sigmas_of settings level (stage_of live candidates) One)
   both_sigmas opened0 opened1 e f =
-      ap (λ a. both_send 2 level a (sigmas level One live opened1)) (sigmas_are Zero opened0 (e ∙ opened_is))
-      ∙ ap (λ b. both_send 2 level (sigmas_of settings level (stage_of live candidates) Zero) b) (sigmas_are One opened1 (f ∙ opened_too))
+      ap (λ a. both_send 2 level a (sigmas level One live opened1)) (sigmas_here Zero opened0 (e ∙ opened_is settings level (stage_of live candidates)))
+      ∙ ap (λ b. both_send 2 level (sigmas_of settings level (stage_of live candidates) Zero) b) (sigmas_here One opened1 (f ∙ opened_too settings level (stage_of live candidates)))
 
   pub passed_is : (opened0 opened1 : List Sums) (passed : List Report)
       → opened0 ≡ paired sums_added (stage_here Zero) (stage_here One) → opened1 ≡ paired sums_added (stage_here One) (stage_here Zero)
       → passed ≡ kept live (paired add (sigmas level Zero live opened0) (sigmas level One live opened1)) → passed ≡ passed_here
   passed_is opened0 opened1 passed e f g =
-      g ∙ ap (λ a. kept live (paired add a (sigmas level One live opened1))) (sigmas_are Zero opened0 (e ∙ opened_is))
-      ∙ ap (λ b. kept live (paired add (sigmas_of settings level (stage_of live candidates) Zero) b)) (sigmas_are One opened1 (f ∙ opened_too))
-      ∙ ap (kept live) (paired-maps add (λ r. own_sigma level Zero r (opened settings level candidates r)) (λ r. own_sigma level One r (opened settings level candidates r)) live)
-      ∙ kept-filter (sigma_sum settings level candidates) live
+      g ∙ ap (λ a. kept live (paired add a (sigmas level One live opened1))) (sigmas_here Zero opened0 (e ∙ opened_is settings level (stage_of live candidates)))
+      ∙ ap (λ b. kept live (paired add (sigmas_of settings level (stage_of live candidates) Zero) b)) (sigmas_here One opened1 (f ∙ opened_too settings level (stage_of live candidates)))
+      ∙ live_is settings level (stage_of live candidates)
 
   pub totals_are : (passed : List Report) (totals : List ℕ) → passed ≡ passed_here
       → totals ≡ paired add (map (own_total passed Zero) candidates) (map (own_total passed One) candidates) → totals ≡ map (total passed_here) candidates

@@ -7,7 +7,8 @@ use Rattle.std.proofs.lemmas.Bool.{lt-ltb, le-ltb, cases_lt}
 use Rattle.std.proofs.lemmas.List.{take_all, take-append-le, length-drop}
 use Rattle.std.proofs.Math.Seq.{drop-append-add}
 use Rattle.definitions.specs.Field.{modulus}
-use Rattle.walk_definitions.specs.Messages.{heading, spelled, message, heading_fault, after_number, numbers_in, after_heading, taken, behind}
+use Rattle.walk_definitions.specs.Messages.{heading, message, heading_fault, after_number, numbers_in, after_heading, taken, behind}
+use Rattle.walk_definitions.proofs.TrueLink.{length-spelled}
 use Rattle.peer_exchange.specs.Exchanges.{message_length}
 use Rattle.peer_exchange.proofs.Fronts.{front_law}
 
@@ -70,10 +71,6 @@ taken_before kind level count bytes rest ns e most =
       sym (front_law kind level count (bytes ++ rest)) ∙ ap (taken kind level count) front ∙ e,
       ap (λ n. drop n (bytes ++ rest)) same_more ∙ drop-append-add bytes rest 0,
     )
-
-length-spelled : (ns : List ℕ) → length (spelled ns) ≡ 8 * length ns
-length-spelled [] = refl
-length-spelled (n ∷ ns) = let rest = length-spelled ns in omega arith
 
 pub length-message : (kind level : ℕ) (ns : List ℕ) → length (message kind level ns) ≡ message_length (length ns)
 unfolding message

@@ -14,6 +14,7 @@ use Rattle.walk_definitions.specs.Reports.{Report, held}
 use Rattle.walk_definitions.specs.Walk.{Settings, own_sums, own_sigma, own_total}
 use Rattle.walk_definitions.specs.Messages.{flat}
 use Rattle.walk_definitions.specs.Heard.{sigmas}
+use Rattle.walk_definitions.proofs.TrueLink.{add-below, below-map, below-flat}
 use Rattle.pair_run.specs.Levels.{HaveLevels}
 use Rattle.pair_run.specs.Places.{picked, alone}
 
@@ -149,21 +150,12 @@ module _ (side : Side) where
 
 -- ---- elements of the field
 
-add-below : (a b : ℕ) → add a b < modulus
-unfolding add
-add-below a b = omega arith
-
-flat_below : (f : Report → Sums) → ((r : Report) → ((f r).x < modulus) × ((f r).y < modulus) × ((f r).z < modulus)) → (rs : List Report)
-    → AllByRecursion (λ n. n < modulus) (flat (map f rs))
-flat_below f h [] = tt
-flat_below f h (r ∷ rs) = ((h r).0, ((h r).1, ((h r).2, flat_below f h rs)))
-
 pub sums_below : (settings : Settings) (level : ℕ) (candidates : List (List Bool)) (side : Side) (rs : List Report) (sums : List Sums)
     → sums ≡ map (own_sums settings level candidates side) rs → All (λ n. n < modulus) (flat sums)
 sums_below settings level candidates side rs sums e =
     subst (λ ss. All (λ n. n < modulus) (flat ss)) (sym e)
     (All-from_recursion (λ n. n < modulus) (flat (map (own_sums settings level candidates side) rs))
-    (flat_below (own_sums settings level candidates side) (λ r. (add-below _ _, add-below _ _, add-below _ _)) rs))
+    (below-flat (own_sums settings level candidates side) (λ r. (add-below _ _, add-below _ _, add-below _ _)) rs))
 
 sigmas_small : (level : ℕ) (side : Side) (rs : List Report) (opened : List Sums) → AllByRecursion (λ n. n < modulus) (sigmas level side rs opened)
 sigmas_small level side [] opened = tt
@@ -175,14 +167,10 @@ pub sigmas_below : (level : ℕ) (side : Side) (rs : List Report) (opened : List
 sigmas_below level side rs opened numbers e =
     subst (All (λ n. n < modulus)) (sym e) (All-from_recursion (λ n. n < modulus) (sigmas level side rs opened) (sigmas_small level side rs opened))
 
-totals_small : (candidates : List (List Bool)) (side : Side) (rs : List Report) → AllByRecursion (λ n. n < modulus) (map (own_total rs side) candidates)
-totals_small [] side rs = tt
-totals_small (q ∷ qs) side rs = (total_by-below _ rs, totals_small qs side rs)
-
 pub totals_below : (candidates : List (List Bool)) (side : Side) (rs : List Report) (numbers : List ℕ) → numbers ≡ map (own_total rs side) candidates
     → All (λ n. n < modulus) numbers
 totals_below candidates side rs numbers e =
-    subst (All (λ n. n < modulus)) (sym e) (All-from_recursion (λ n. n < modulus) (map (own_total rs side) candidates) (totals_small candidates side rs))
+    subst (All (λ n. n < modulus)) (sym e) (All-from_recursion (λ n. n < modulus) (map (own_total rs side) candidates) (below-map (own_total rs side) (λ q. total_by-below _ rs) candidates))
 
 -- ---- conditions
 

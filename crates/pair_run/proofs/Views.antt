@@ -3,10 +3,10 @@ use Rattle.std.proofs.Common.{◌≡◌, ℕ, zero, suc, ◌+◌, ◌<◌, List,
 use Rattle.std.specs.Prelude.{Option, if◌then◌else◌}
 use Rattle.std.proofs.lemmas.Bool.{eq-eqb, ne_eqb}
 use Rattle.definitions.specs.Field.{add}
-use Rattle.definitions.proofs.FieldLaws.{add_comm}
 use Rattle.walk_definitions.specs.Walk.{End, views}
 use Rattle.walk_definitions.specs.Messages.{Message}
 use Rattle.walk_definitions.specs.Heard.{Heard, ended, preceded, paired, both_view, added}
+use Rattle.walk_definitions.proofs.TrueLink.{view_same}
 use Rattle.shelf_io.specs.Talks.{Talk}
 use Rattle.pair_run.specs.declared.answers.PairError.{PairError}
 use Rattle.pair_run.specs.declared.answers.PairError.TheVariants.{Cap, Link, PeerMessage, Views, Memory}
@@ -14,12 +14,6 @@ use Rattle.pair_run.specs.Failures.{Stops, IsView}
 use Rattle.pair_run.specs.Parts.{GoesOn, EndsThere, exchange}
 use Rattle.pair_run.specs.Talking.{Passed}
 use Rattle.pair_run.proofs.Followed.{passed_map}
-
-view_same : (kind level place : ℕ) (xs : List ℕ) (next : Heard) → both_view kind level place xs xs next ≡ next
-view_same kind level place [] next = refl
-view_same kind level place (x ∷ xs) next =
-    ap (λ b. if b then both_view kind level (place + 1) xs xs next else ended (views level kind place x x)) (eq-eqb x x refl)
-    ∙ view_same kind level (place + 1) xs next
 
 pub view_at : (kind level place k : ℕ) (xs ys : List ℕ) (next : Heard) → k < length xs → length xs ≡ length ys → take k xs ≡ take k ys
     → (get_or xs k 0 ≡ get_or ys k 0 → ⊥)
@@ -79,12 +73,6 @@ pub length_paired : {X Y Z : Type 0} (f : X → Y → Z) (xs : List X) (ys : Lis
 length_paired f [] ys e = refl
 length_paired f (x ∷ xs) [] e = absurd (omega (arith, e))
 length_paired f (x ∷ xs) (y ∷ ys) e = let rest = length_paired f xs ys (omega (arith, e)) in omega arith
-
-pub paired_swap : (xs ys : List ℕ) → paired add ys xs ≡ paired add xs ys
-paired_swap [] [] = refl
-paired_swap [] (y ∷ ys) = refl
-paired_swap (x ∷ xs) [] = refl
-paired_swap (x ∷ xs) (y ∷ ys) = let first = add_comm y x in let rest = paired_swap xs ys in cc
 
 -- the first place at which two lists differ is the comparison's end
 pub view_is : (kind level k l n place left right : ℕ) (xs ys : List ℕ) → k < length xs → length xs ≡ length ys → take k xs ≡ take k ys

@@ -51,7 +51,7 @@ pub fn agreed_sums<K: Link>(
     compared(kind, level, sums0, &sums1)
 }
 
-// Side 0's sums, where side 1's are the same.
+/// Side 0's sums, where side 1's are the same.
 fn compared(kind: AddedKind, level: u16, sums0: Vec<Fe>, sums1: &[Fe]) -> Result<Vec<Fe>, PairError>
     requires few { length sums0.items < 2 ^ 27 }
     requires same { length sums0.items ≡ length sums1.now }

@@ -66,7 +66,7 @@ pub fn check_reports<K: Link>(
     Ok(kept_places(alloc, live, &numbers)?)
 }
 
-// A side's sigmas of a batch's live reports.
+/// A side's sigmas of a batch's live reports.
 fn side_sigmas(
     alloc: Global,
     level: u16,

@@ -70,7 +70,7 @@ pub fn open_sums<K: Link>(
     Ok((opened0, opened1))
 }
 
-// A side's own sums of a batch's live reports.
+/// A side's own sums of a batch's live reports.
 fn side_sums(
     alloc: Global,
     settings: &WalkSettings,

@@ -13,7 +13,7 @@ use prefix_bits::Side;
 use sketch_check::{Sums, sigma};
 use std::alloc::{AllocError, Global};
 
-// A share's sigma of the opened sums.
+/// A share's sigma of the opened sums.
 fn share_sigma(level: u16, side: Side, share: &Share, opened: &Sums) -> Fe
     requires first { 1 ≤ level }
     requires last { level ≤ length share.now.levels }

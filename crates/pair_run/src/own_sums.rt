@@ -17,7 +17,7 @@ use seed_expand::Seed;
 use sketch_check::{CoinKey, Sums, correlation, masked};
 use std::alloc::{AllocError, Global};
 
-// A share's hidden sums over the candidates. `coins` has a place for each candidate, and holds its coins afterwards.
+/// A share's hidden sums over the candidates. `coins` has a place for each candidate, and holds its coins afterwards.
 fn share_sums(
     verify: &Seed,
     level: u16,

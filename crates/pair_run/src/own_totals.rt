@@ -11,7 +11,7 @@ use idpf_eval::{Share, eval_uncounted};
 use prefix_bits::{Prefix, Side};
 use std::alloc::{AllocError, Global};
 
-// A side's total at a prefix.
+/// A side's total at a prefix.
 fn own_total(side: Side, shares: &[Share], live: &[u32], prefix: &Prefix) -> Fe
     requires long { All (λ s. length prefix.now ≤ length s.levels) shares.now }
     requires places { All (λ k. k < length shares.now) live.now }

@@ -71,7 +71,7 @@ pub fn walk_step<K: Link>(
     pruned_step(alloc, settings, batch, frontier, walked)
 }
 
-// What a walked level's pruning leaves.
+/// What a walked level's pruning leaves.
 fn pruned_step(
     alloc: Global,
     settings: &WalkSettings,

@@ -60,7 +60,7 @@ pub fn add_totals<K: Link>(
     agreed_sums(alloc, link, AddedKind::Totals, level, &totals0, &totals1)
 }
 
-// A side's totals over a batch's reports that passed a level.
+/// A side's totals over a batch's reports that passed a level.
 fn side_totals(
     alloc: Global,
     level: u16,

@@ -55,7 +55,7 @@ pub fn walk<R: Threads + Wait + Sync, K: Link, G: Gate>(
     walk_from(alloc, link, settings, batch, frontier, live)
 }
 
-// The walk from a frontier's level on.
+/// The walk from a frontier's level on.
 fn walk_from<K: Link>(
     alloc: Global,
     link: &mut K,

@@ -3,6 +3,7 @@
 
 mod eval;
 mod generating;
+mod ordering;
 mod pairs;
 mod running;
 mod twisting;

@@ -1,5 +1,5 @@
 -- How `eval` and `gen` keep their promise, and which command the first word names.
-use Rattle.std.proofs.Common.{◌≡◌, ◌≤◌, ◌⊎◌, inl, inr, ℕ, Bool, true, false, List, Option, None, Some, refl, sym, ap, subst, ◌∙◌, arith}
+use Rattle.std.proofs.Common.{◌≡◌, ◌≤◌, ◌⊎◌, inl, inr, ℕ, Bool, true, false, List, Option, None, Some, sym, ap, subst, ◌∙◌, arith}
 use Rattle.std.specs.Prelude.{IfSome, if◌then◌else◌, codes}
 use Rattle.std.specs.Str.{bytes_eq}
 use Rattle.std.specs.FinMap.{get}
@@ -12,12 +12,17 @@ use Rattle.poplar_top.specs.declared.stop.Stop.{Stop}
 use Rattle.poplar_top.specs.declared.stop.Stop.TheVariants as stops
 use Rattle.poplar_top.specs.Commands.{command_of, generates, runs, evaluates}
 use Rattle.poplar_top.specs.Keeps.{Meets, KeepsOf}
-use Rattle.poplar_top.specs.Makings.{MakesFiles, StopsAt}
+use Rattle.pair_files.specs.Made.{zero_text, one_text}
+use Rattle.file_gen.specs.declared.errors.GenError.{GenError}
+use Rattle.file_gen.specs.declared.errors.GenError.TheVariants as gens
+use Rattle.file_gen.specs.Makings.{Makes, StopsAt}
 use Rattle.poplar_top.specs.Outcomes.{eval_file_outcome, eval_told, eval_settled, gen_file_outcome, gen_told, gen_settled}
 use Rattle.poplar_top.specs.Outcomes.Outcome.{texts, writes}
 use Rattle.poplar_top.specs.Statuses.{Prints, ErrGets, OutFirst}
-use Rattle.poplar_top.specs.Stops.{StopFits, IsEvalStop, IsGenStop, stop_status, stop_line}
-use Rattle.poplar_top.proofs.FileSteps.{gen_status, shelf_kept, written_shelf}
+use Rattle.poplar_top.specs.Stops.{StopFits, IsEvalStop, IsGenStop, gen_stop, stop_status, stop_line}
+use Rattle.poplar_top.proofs.FileSteps.{gen_status, written_shelf}
+use Rattle.poplar_top.proofs.GenSteps.{names_of, pairs_of, files_fit, files_are, stopped_shelf, error_own, error_shelf}
+use Rattle.poplar_top.proofs.KeptSteps.{shelf_kept}
 use Rattle.poplar_top.proofs.MeetSteps.{MayStop, MayPrint, MayMake, Wrote, is_later, still_later, may_stop, may_print, may_make, stop_meets, written_meets, made_meets, stop_other, wrote_other}
 use Rattle.poplar_top.proofs.TopSteps.{eval_status}
 
@@ -110,27 +115,34 @@ module _ (words : List (List ℕ)) (settings : GenSettings) (given : Some settin
         finds = λ ready. tt;
       }
 
-  pub gen_error_keeps : (stop : Stop) → StopsAt settings stop before.shelf.files after.shelf.files
-      → (stop ≡ stops.Shelf → Rose before.shelf.faults after.shelf.faults) → GrewWithin before.err.taken after.err.taken (stop_line stop)
-      → before.err.faults ≤ after.err.faults → KeepsOf generates words before after (stop_status stop)
-  gen_error_keeps stop stopped fault line later =
+  pub gen_error_keeps : (e : GenError) → StopsAt (names_of settings) (pairs_of settings) before.shelf.files after.shelf.files e
+      → (e ≡ gens.Shelf → Rose before.shelf.faults after.shelf.faults) → GrewWithin before.err.taken after.err.taken (stop_line (gen_stop e))
+      → before.err.faults ≤ after.err.faults → KeepsOf generates words before after (stop_status (gen_stop e))
+  gen_error_keeps e stopped fault line later =
+      let stop = gen_stop e in
+      let fits = files_fit settings before.shelf.files e stopped.fits in
       gen_keeps (stop_status stop)
-      (stop_meets (gen_told settings before.shelf.files) false before after stop (may before.shelf.files stopped.fits)
-      (gen_status settings before.shelf.files stop _ _ _ stopped.own stopped.fits fault) still line stopped.shelf) later (gen_nine stop stopped.own)
+      (stop_meets (gen_told settings before.shelf.files) false before after stop (may before.shelf.files stop fits)
+      (gen_status settings before.shelf.files stop _ _ _ (error_own e) fits (λ shelf. fault (error_shelf e shelf))) still line
+      (stopped_shelf settings before.shelf.files after.shelf.files (stop_status stop) (stop_other stop) stopped.shelf)) later (gen_nine stop (error_own e))
     where
-      may : (files : Option Files) → IfSome files (λ held. StopFits (gen_file_outcome settings (get held settings.strings)) stop) → MayStop (gen_told settings files) stop
-      may None h = tt
-      may (Some held) h = may_stop (gen_file_outcome settings (get held settings.strings)) stop h
+      may : (files : Option Files) (stop : Stop) → IfSome files (λ held. StopFits (gen_file_outcome settings (get held settings.strings)) stop)
+          → MayStop (gen_told settings files) stop
+      may None stop h = tt
+      may (Some held) stop h = may_stop (gen_file_outcome settings (get held settings.strings)) stop h
 
-  pub gen_made_keeps : after.err ≡ before.err → MakesFiles settings before.shelf.files after.shelf.files → KeepsOf generates words before after 0
+  pub gen_made_keeps : after.err ≡ before.err → Makes (names_of settings) (pairs_of settings) before.shelf.files after.shelf.files
+      → KeepsOf generates words before after 0
   gen_made_keeps quiet makes =
-      gen_keeps 0 (made_meets (gen_told settings before.shelf.files) false before after settings.zero makes.zero_text settings.one makes.one_text
-      (may before.shelf.files makes.is) still quiet
-      (written_shelf settings makes.zero_text makes.one_text before.shelf.files after.shelf.files makes.is makes.holds))
+      let zeros = zero_text settings.width settings.master settings.tag makes.them in
+      let ones = one_text settings.width settings.master settings.tag makes.them in
+      let are = files_are settings before.shelf.files makes.them makes.are in
+      gen_keeps 0 (made_meets (gen_told settings before.shelf.files) false before after settings.zero zeros settings.one ones
+      (may before.shelf.files zeros ones are) still quiet (written_shelf settings zeros ones before.shelf.files after.shelf.files are makes.holds))
       (still_later before.err after.err quiet) (λ e. omega (arith, e))
     where
-      may : (files : Option Files)
-          → IfSome files (λ held. gen_file_outcome settings (get held settings.strings) ≡ writes settings.zero makes.zero_text settings.one makes.one_text)
-          → MayMake (gen_told settings files) settings.zero makes.zero_text settings.one makes.one_text
-      may None h = tt
-      may (Some held) h = may_make (gen_file_outcome settings (get held settings.strings)) _ _ _ _ h
+      may : (files : Option Files) (zeros ones : List ℕ)
+          → IfSome files (λ held. gen_file_outcome settings (get held settings.strings) ≡ writes settings.zero zeros settings.one ones)
+          → MayMake (gen_told settings files) settings.zero zeros settings.one ones
+      may None zeros ones h = tt
+      may (Some held) zeros ones h = may_make (gen_file_outcome settings (get held settings.strings)) _ _ _ _ h

@@ -1,116 +1,100 @@
--- What `gen` cites.
-use Rattle.std.proofs.Common.{◌≡◌, ℕ, ◌^◌, ◌<◌, ◌≤◌, Bool, false, cond, nat_lt, List, Option, None, Some, length, take, refl, sym, subst, ap, ◌∙◌, arith}
-use Rattle.std.proofs.lemmas.Bool.{lt-ltb, le-ltb}
-use Rattle.std.proofs.lemmas.List.{take_all}
-use Rattle.text_strings.specs.Lines.{LinesCase, strings, lines_case, Tells}
-use Rattle.text_strings.specs.declared.lines_error.LinesError.{LinesError}
+-- What the answer of `gen` says of its outcome, of its reasons to stop and of the shelf.
+use Rattle.std.proofs.Common.{◌≡◌, ℕ, List, Bool, Option, None, Some, Ok, Err, ap, refl}
+use Rattle.std.specs.Prelude.{IfSome, IsTrue}
+use Rattle.std.specs.FinMap.{get}
+use Rattle.shelf_io.specs.Files.{Files}
 use Rattle.text_strings.specs.declared.lines_error.LinesError.TheVariants as lines
 use Rattle.pair_files.specs.Made.{zero_text, one_text}
-use Rattle.poplar_top.specs.declared.refusal.Refusal.TheVariants.{Missing, TooLong, Header, Cut, LongPrefix, NoStrings, StringsLong, TooMany, LineLong, ZeroByte, Widths, Walk}
-use Rattle.poplar_top.specs.declared.stop.Stop.{Stop}
-use Rattle.poplar_top.specs.declared.stop.Stop.TheVariants as stops
+use Rattle.pair_files.specs.declared.pair_settings.PairSettings.{PairSettings}
+use Rattle.file_gen.specs.declared.errors.GenError.{GenError}
+use Rattle.file_gen.specs.declared.errors.GenError.TheVariants as gens
+use Rattle.file_gen.specs.Answers.{Answer, strings_answer, Fits}
+use Rattle.file_gen.specs.Makings.{Names, ShelfAfter}
 use Rattle.command_words.specs.Settings.{GenSettings}
-use Rattle.poplar_top.specs.Outcomes.{gen_case, gen_file_outcome}
-use Rattle.poplar_top.specs.Outcomes.Outcome.{refusal, writes}
-use Rattle.poplar_top.specs.Stops.{StopFits, FitsFile, FitsLines, IsGenStop, lines_stop}
+use Rattle.poplar_top.specs.declared.stop.Stop.TheVariants as stops
+use Rattle.poplar_top.specs.Outcomes.{gen_refused, gen_answered, gen_file_outcome, gen_told}
+use Rattle.poplar_top.specs.Outcomes.Outcome.{writes}
+use Rattle.poplar_top.specs.Statuses.{ShelfGets, asks_shelf}
+use Rattle.poplar_top.specs.Stops.{StopFits, IsGenStop, gen_stop}
+use Rattle.poplar_top.proofs.KeptSteps.{shelf_kept}
 
--- a refusal of the lines is the one that they are
-pub lines_fit : (e : LinesError) (found : LinesCase) → Tells e found → FitsLines found (lines_stop e)
-lines_fit (lines.TooMany count) found h = h
-lines_fit (lines.LineLong line) found h = h
-lines_fit (lines.ZeroByte line) found h = h
-lines_fit lines.Memory found h = tt
+-- what `file_gen` is asked for
+abbrev pub names_of : GenSettings → Names
+names_of settings = record { strings = settings.strings; zero = settings.zero; one = settings.one }
 
-pub ruleset line_steps = (lines_fit)
+abbrev pub pairs_of : GenSettings → PairSettings
+pairs_of settings = record { width = settings.width; master = settings.master; tag = settings.tag }
 
--- ---- a strings file that is not too long
+-- the shelf is asked in every `gen`
+refused_asks : (e : GenError) → IsTrue (asks_shelf (gen_refused e))
+refused_asks gens.Missing = refl
+refused_asks gens.TooLong = refl
+refused_asks (gens.Lines (lines.TooMany count)) = refl
+refused_asks (gens.Lines (lines.LineLong line)) = refl
+refused_asks (gens.Lines (lines.ZeroByte line)) = refl
+refused_asks (gens.Lines lines.Memory) = refl
+refused_asks gens.Shelf = refl
+refused_asks gens.Memory = refl
 
-judged : (settings : GenSettings) (bytes : List ℕ) → length bytes ≤ 2 ^ 28 → gen_file_outcome settings (Some bytes) ≡ gen_case settings (lines_case settings.width bytes)
-judged settings bytes h =
-    let short : nat_lt (2 ^ 28) (length bytes) ≡ false = le-ltb (2 ^ 28) (length bytes) h in
-    ap (λ b. cond b (refusal StringsLong) (gen_case settings (lines_case settings.width bytes))) short
+pub answer_asks : (settings : GenSettings) (a : Answer) → IsTrue (asks_shelf (gen_answered settings a))
+answer_asks settings (Ok them) = refl
+answer_asks settings (Err e) = refused_asks e
 
-pub gen_found : (settings : GenSettings) (bytes : List ℕ) (them : List (List Bool)) → length bytes ≤ 2 ^ 28 → lines_case settings.width bytes ≡ strings them
-    → gen_file_outcome settings (Some bytes)
-    ≡ writes settings.zero (zero_text settings.width settings.master settings.tag them) settings.one (one_text settings.width settings.master settings.tag them)
-gen_found settings bytes them h e = judged settings bytes h ∙ ap (gen_case settings) e
+-- an error's reason is the refusal that the answer is
+pub error_fits : (settings : GenSettings) (e : GenError) (a : Answer) → Fits a e → StopFits (gen_answered settings a) (gen_stop e)
+error_fits settings gens.Missing a h = ap (gen_answered settings) h
+error_fits settings gens.TooLong a h = ap (gen_answered settings) h
+error_fits settings (gens.Lines (lines.TooMany count)) a h = ap (gen_answered settings) h
+error_fits settings (gens.Lines (lines.LineLong line)) a h = ap (gen_answered settings) h
+error_fits settings (gens.Lines (lines.ZeroByte line)) a h = ap (gen_answered settings) h
+error_fits settings (gens.Lines lines.Memory) a h = tt
+error_fits settings gens.Shelf a h = tt
+error_fits settings gens.Memory a h = tt
 
-fits_case : (settings : GenSettings) (found : LinesCase) (stop : Stop) → FitsLines found stop → StopFits (gen_case settings found) stop
-fits_case settings found (stops.Refusal (TooMany count)) h = ap (gen_case settings) h
-fits_case settings found (stops.Refusal (LineLong line)) h = ap (gen_case settings) h
-fits_case settings found (stops.Refusal (ZeroByte line)) h = ap (gen_case settings) h
-fits_case settings found (stops.Refusal (Missing side)) h = absurd h
-fits_case settings found (stops.Refusal (TooLong side)) h = absurd h
-fits_case settings found (stops.Refusal (Header side at)) h = absurd h
-fits_case settings found (stops.Refusal (Cut side at)) h = absurd h
-fits_case settings found (stops.Refusal (LongPrefix bits width)) h = absurd h
-fits_case settings found (stops.Refusal NoStrings) h = absurd h
-fits_case settings found (stops.Refusal StringsLong) h = absurd h
-fits_case settings found (stops.Refusal (Widths zero one)) h = absurd h
-fits_case settings found (stops.Refusal (Walk why)) h = absurd h
-fits_case settings found stops.Shelf h = tt
-fits_case settings found stops.Link h = tt
-fits_case settings found stops.Memory h = tt
+pub error_own : (e : GenError) → IsGenStop (gen_stop e)
+error_own gens.Missing = refl
+error_own gens.TooLong = refl
+error_own (gens.Lines (lines.TooMany count)) = refl
+error_own (gens.Lines (lines.LineLong line)) = refl
+error_own (gens.Lines (lines.ZeroByte line)) = refl
+error_own (gens.Lines lines.Memory) = tt
+error_own gens.Shelf = tt
+error_own gens.Memory = tt
 
-pub gen_refused : (settings : GenSettings) (bytes : List ℕ) (stop : Stop) → length bytes ≤ 2 ^ 28 → FitsLines (lines_case settings.width bytes) stop
-    → StopFits (gen_file_outcome settings (Some bytes)) stop
-gen_refused settings bytes stop h fits =
-    subst (λ o. StopFits o stop) (sym (judged settings bytes h)) (fits_case settings (lines_case settings.width bytes) stop fits)
+-- the shelf is named only where the error names it
+pub error_shelf : (e : GenError) → gen_stop e ≡ stops.Shelf → e ≡ gens.Shelf
+error_shelf gens.Missing h = cc
+error_shelf gens.TooLong h = cc
+error_shelf (gens.Lines (lines.TooMany count)) h = cc
+error_shelf (gens.Lines (lines.LineLong line)) h = cc
+error_shelf (gens.Lines (lines.ZeroByte line)) h = cc
+error_shelf (gens.Lines lines.Memory) h = cc
+error_shelf gens.Shelf h = refl
+error_shelf gens.Memory h = cc
 
--- ---- one that is too long
+-- ---- where the shelf tells
 
-pub gen_long : (settings : GenSettings) (bytes : List ℕ) → 2 ^ 28 < length bytes → gen_file_outcome settings (Some bytes) ≡ refusal StringsLong
-gen_long settings bytes h =
-    ap (λ b. cond b (refusal StringsLong) (gen_case settings (lines_case settings.width bytes))) (lt-ltb (2 ^ 28) (length bytes) h)
+pub files_fit : (settings : GenSettings) (told : Option Files) (e : GenError)
+    → IfSome told (λ held. Fits (strings_answer settings.width (get held settings.strings)) e)
+    → IfSome told (λ held. StopFits (gen_file_outcome settings (get held settings.strings)) (gen_stop e))
+files_fit settings None e h = tt
+files_fit settings (Some held) e h = error_fits settings e (strings_answer settings.width (get held settings.strings)) h
 
--- the statuses of refused lines
-pub lines_own : (found : LinesCase) (stop : Stop) → FitsLines found stop → IsGenStop stop
-lines_own found (stops.Refusal (TooMany count)) h = refl
-lines_own found (stops.Refusal (LineLong line)) h = refl
-lines_own found (stops.Refusal (ZeroByte line)) h = refl
-lines_own found (stops.Refusal (Missing side)) h = absurd h
-lines_own found (stops.Refusal (TooLong side)) h = absurd h
-lines_own found (stops.Refusal (Header side at)) h = absurd h
-lines_own found (stops.Refusal (Cut side at)) h = absurd h
-lines_own found (stops.Refusal (LongPrefix bits width)) h = absurd h
-lines_own found (stops.Refusal NoStrings) h = absurd h
-lines_own found (stops.Refusal StringsLong) h = absurd h
-lines_own found (stops.Refusal (Widths zero one)) h = absurd h
-lines_own found (stops.Refusal (Walk why)) h = absurd h
-lines_own found stops.Shelf h = absurd h
-lines_own found stops.Link h = absurd h
-lines_own found stops.Memory h = tt
+pub files_are : (settings : GenSettings) (told : Option Files) (them : List (List Bool))
+    → IfSome told (λ held. strings_answer settings.width (get held settings.strings) ≡ Ok them)
+    → IfSome told (λ held. gen_file_outcome settings (get held settings.strings)
+    ≡ writes settings.zero (zero_text settings.width settings.master settings.tag them) settings.one (one_text settings.width settings.master settings.tag them))
+files_are settings None them h = tt
+files_are settings (Some held) them h = ap (gen_answered settings) h
 
--- and that they are no fault of the shelf
-pub lines_no_shelf : (found : LinesCase) (stop : Stop) → FitsLines found stop → stop ≡ stops.Shelf → ⊥
-lines_no_shelf found (stops.Refusal r) h e = absurd (cc)
-lines_no_shelf found stops.Shelf h e = absurd h
-lines_no_shelf found stops.Link h e = absurd h
-lines_no_shelf found stops.Memory h e = absurd (cc)
+answer_shelf : (settings : GenSettings) (a : Answer) (status : ℕ) (before now : Option Files) → (status ≡ 0 → ⊥)
+    → ShelfAfter (names_of settings) (pairs_of settings) a before now → ShelfGets (gen_answered settings a) status before now
+answer_shelf settings (Ok them) status before now other h = ((λ z. absurd (other z)), (λ _. h))
+answer_shelf settings (Err e) status before now other h = shelf_kept (gen_refused e) status before now other h
 
--- a file that was not read whole
-pub file_refused : (settings : GenSettings) (found : Option (List ℕ)) (stop : Stop) → FitsFile found stop → StopFits (gen_file_outcome settings found) stop
-file_refused settings found (stops.Refusal NoStrings) h = ap (gen_file_outcome settings) h
-file_refused settings None (stops.Refusal StringsLong) h = absurd h
-file_refused settings (Some bytes) (stops.Refusal StringsLong) h = gen_long settings bytes h
-file_refused settings found (stops.Refusal (TooMany count)) h = absurd h
-file_refused settings found (stops.Refusal (LineLong line)) h = absurd h
-file_refused settings found (stops.Refusal (ZeroByte line)) h = absurd h
-file_refused settings found (stops.Refusal (Missing side)) h = absurd h
-file_refused settings found (stops.Refusal (TooLong side)) h = absurd h
-file_refused settings found (stops.Refusal (Header side at)) h = absurd h
-file_refused settings found (stops.Refusal (Cut side at)) h = absurd h
-file_refused settings found (stops.Refusal (LongPrefix bits width)) h = absurd h
-file_refused settings found (stops.Refusal (Widths zero one)) h = absurd h
-file_refused settings found (stops.Refusal (Walk why)) h = absurd h
-file_refused settings found stops.Shelf h = tt
-file_refused settings found stops.Link h = absurd h
-file_refused settings found stops.Memory h = tt
-
--- a file of which as many bytes were read as it has
-pub all_read : (bytes read : List ℕ) (filled : ℕ) → filled ≡ length bytes → take filled read ≡ take filled bytes → take filled read ≡ bytes
-all_read bytes read filled e same = same ∙ take_all filled bytes (omega arith)
-
-pub ruleset byte_steps = (all_read)
-
-pub ruleset gen_steps = (gen_found, gen_refused, file_refused, lines_own, lines_no_shelf)
+pub stopped_shelf : (settings : GenSettings) (told now : Option Files) (status : ℕ) → (status ≡ 0 → ⊥)
+    → IfSome told (λ held. ShelfAfter (names_of settings) (pairs_of settings) (strings_answer settings.width (get held settings.strings)) told now)
+    → ShelfGets (gen_told settings told) status told now
+stopped_shelf settings None now status other h = tt
+stopped_shelf settings (Some held) now status other h =
+    answer_shelf settings (strings_answer settings.width (get held settings.strings)) status (Some held) now other h

@@ -1,4 +1,5 @@
 pub mod TopSteps
+pub mod KeptSteps
 pub mod EvalSteps
 pub mod GenSteps
 pub mod FileSteps

@@ -1,9 +1,8 @@
 -- What a command meets by how its work ended, whatever its outcome is: with a reason to stop, with texts that were written, or
 -- with files that were made.
-use Rattle.std.proofs.Common.{◌≡◌, ◌≤◌, ◌⊎◌, inl, inr, ℕ, Bool, true, false, List, ◌++◌, Option, None, Some, take, refl, sym, subst, ap, ◌∙◌, arith}
+use Rattle.std.proofs.Common.{◌≡◌, ◌≤◌, ◌⊎◌, inl, inr, ℕ, Bool, false, List, Option, take, refl, sym, subst, ap, ◌∙◌, arith}
 use Rattle.std.specs.Prelude.{IsTrue}
 use Rattle.shelf_io.specs.Faults.{Rose}
-use Rattle.shelf_io.specs.Files.{Files}
 use Rattle.shelf_io.specs.Seen.{LinkSeen, SinkSeen, Outside}
 use Rattle.shelf_io.specs.Texts.{GrewWithin}
 use Rattle.shelf_io.proofs.TextLaws.{within_none}

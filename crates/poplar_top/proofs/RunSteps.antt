@@ -22,18 +22,16 @@ use Rattle.file_run.specs.Keeps.{RunKeeps}
 use Rattle.file_run.specs.Sendings.{SentWhole, SentFront, SentBy, IsUnsent}
 use Rattle.file_run.proofs.WalkSteps.{front}
 use Rattle.command_words.specs.RunSettings.{RunSettings, run_words}
-use Rattle.poplar_top.specs.declared.stop.Stop.{Stop}
 use Rattle.poplar_top.specs.declared.stop.Stop.TheVariants as stops
-use Rattle.poplar_top.specs.Outcomes.{Outcome}
-use Rattle.poplar_top.specs.Outcomes.Outcome.{usage, refusal, texts, writes, untold_eval, untold_gen, untold_run, unheard}
-use Rattle.poplar_top.specs.RunOutcomes.{run_refused, answered, unheard_answer, rules_asked, files_asked, run_files_outcome, run_told, run_settled, go_together, run_walks}
+use Rattle.poplar_top.specs.Outcomes.Outcome.{texts, untold_run, unheard}
+use Rattle.poplar_top.specs.RunOutcomes.{run_refused, answered, unheard_answer, rules_asked, files_asked, run_told, run_settled, go_together, run_walks}
 use Rattle.poplar_top.specs.RunLinks.{WalkSends, FilesSend, RunSends, FilesFind, FindsIn, RunFinds}
 use Rattle.poplar_top.specs.Commands.{runs as the_run}
 use Rattle.poplar_top.specs.Keeps.{Meets, IsLater, KeepsOf}
 use Rattle.poplar_top.specs.RunStops.{run_stop}
 use Rattle.poplar_top.specs.Statuses.{MayStand, Prints, ErrGets, OutFirst, asks_shelf}
 use Rattle.poplar_top.specs.Stops.{StopFits, stop_status, stop_line}
-use Rattle.poplar_top.proofs.FileSteps.{shelf_kept}
+use Rattle.poplar_top.proofs.KeptSteps.{shelf_kept}
 use Rattle.poplar_top.proofs.MeetSteps.{MayStop, MayPrint, Wrote, still_later, may_stop, may_print, stop_meets, written_meets, stop_other, wrote_other}
 use Rattle.poplar_top.proofs.TopSteps.{fault_status}
 

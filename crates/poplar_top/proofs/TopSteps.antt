@@ -1,6 +1,6 @@
 -- What the top call cites.
-use Rattle.std.proofs.Common.{◌≡◌, ◌⊎◌, inl, inr, ℕ, ◌*◌, ◌++◌, Bool, true, false, nat_lt, List, [], ◌∷◌, Option, None, Some, length, take, refl, sym, subst, ap, ◌∙◌, arith, append-nil}
-use Rattle.std.specs.Prelude.{IfSome, IsTrue, if◌then◌else◌}
+use Rattle.std.proofs.Common.{◌≡◌, ◌⊎◌, inl, inr, ℕ, ◌++◌, List, [], ◌∷◌, Option, None, Some, length, take, refl, sym, subst, ap, ◌∙◌, arith, append-nil}
+use Rattle.std.specs.Prelude.{IfSome, IsTrue}
 use Rattle.std.specs.FinMap.{get}
 use Rattle.shelf_io.specs.Faults.{Rose}
 use Rattle.shelf_io.specs.Files.{Files}

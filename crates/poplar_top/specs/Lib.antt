@@ -6,6 +6,5 @@ pub mod RunStops
 pub mod RunOutcomes
 pub mod RunLinks
 pub mod Commands
-pub mod Makings
 pub mod Laws
 pub mod Keeps

@@ -1,6 +1,5 @@
 -- What the words and the told files come to, with the causes in their order.
-use Rattle.std.specs.Prelude.{ℕ, ◌^◌, List, Option, None, Some, Ok, Err, length, nat_lt}
-use Rattle.std.specs.Bool.{if◌then◌else◌}
+use Rattle.std.specs.Prelude.{ℕ, List, Option, None, Some, Ok, Err}
 use Rattle.std.specs.FinMap.{get}
 use Rattle.shelf_io.specs.Files.{Files}
 use Rattle.definitions.specs.declared.Side.{Side}
@@ -8,7 +7,10 @@ use Rattle.share_format.specs.declared.file_error.FileError.TheVariants as files
 use Rattle.file_eval.specs.declared.errors.EvalError.{EvalError}
 use Rattle.file_eval.specs.declared.errors.EvalError.TheVariants as evals
 use Rattle.file_eval.specs.Answers.{Answer, eval_answer}
-use Rattle.text_strings.specs.Lines.{LinesCase, too_many, line_long, zero_byte, strings, lines_case}
+use Rattle.file_gen.specs.declared.errors.GenError.{GenError}
+use Rattle.file_gen.specs.declared.errors.GenError.TheVariants as gens
+use Rattle.file_gen.specs.Answers.{Answer as Strings, strings_answer}
+use Rattle.text_strings.specs.declared.lines_error.LinesError.TheVariants as lines
 use Rattle.pair_files.specs.Made.{zero_text, one_text}
 use Rattle.command_words.specs.Settings.{EvalSettings, eval_words, GenSettings, gen_words}
 use Rattle.poplar_top.specs.declared.refusal.Refusal.{Refusal}
@@ -59,24 +61,26 @@ eval_outcome words files = eval_settled (eval_words words) files
 
 -- ---- gen
 
--- `gen` of what the strings file holds
-abbrev pub gen_case : GenSettings → LinesCase → Outcome
-gen_case settings (too_many lines) = refusal (TooMany lines)
-gen_case settings (line_long line) = refusal (LineLong line)
-gen_case settings (zero_byte line) = refusal (ZeroByte line)
-gen_case settings (strings them) =
+-- a refusal of `gen`; a failed shelf and want of memory are no outcome of what is told
+abbrev pub gen_refused : GenError → Outcome
+gen_refused gens.Missing = refusal NoStrings
+gen_refused gens.TooLong = refusal StringsLong
+gen_refused (gens.Lines (lines.TooMany count)) = refusal (TooMany count)
+gen_refused (gens.Lines (lines.LineLong line)) = refusal (LineLong line)
+gen_refused (gens.Lines (lines.ZeroByte line)) = refusal (ZeroByte line)
+gen_refused (gens.Lines lines.Memory) = untold_gen
+gen_refused gens.Shelf = untold_gen
+gen_refused gens.Memory = untold_gen
+
+abbrev pub gen_answered : GenSettings → Strings → Outcome
+gen_answered settings (Ok them) =
     writes settings.zero (zero_text settings.width settings.master settings.tag them)
     settings.one (one_text settings.width settings.master settings.tag them)
-
--- the most bytes of a strings file
-abbrev pub most_string_bytes : ℕ
-most_string_bytes = 2 ^ 28
+gen_answered settings (Err e) = gen_refused e
 
 -- `gen` of the strings file, where it is there
 abbrev pub gen_file_outcome : GenSettings → Option (List ℕ) → Outcome
-gen_file_outcome settings None = refusal NoStrings
-gen_file_outcome settings (Some bytes) =
-    if nat_lt most_string_bytes (length bytes) then refusal StringsLong else gen_case settings (lines_case settings.width bytes)
+gen_file_outcome settings found = gen_answered settings (strings_answer settings.width found)
 
 abbrev pub gen_told : GenSettings → Option Files → Outcome
 gen_told settings None = untold_gen

@@ -1,5 +1,5 @@
 -- Why there is no text.
-use Rattle.std.specs.Prelude.{◌≡◌, ◌⊎◌, ℕ, ◌^◌, ◌<◌, List, Option, None, Some, codes, length}
+use Rattle.std.specs.Prelude.{◌≡◌, ◌⊎◌, ℕ, List, codes}
 use Rattle.shelf_io.specs.declared.refused.Refused.{Refused}
 use Rattle.shelf_io.specs.declared.refused.Refused.TheVariants.{Failed, Memory as NoMemory}
 use Rattle.poplar_top.specs.declared.stop.Stop.{Stop}
@@ -7,11 +7,11 @@ use Rattle.poplar_top.specs.declared.stop.Stop.TheVariants as stops
 use Rattle.definitions.specs.declared.Side.{Side}
 use Rattle.share_format.specs.declared.file_error.FileError.{FileError}
 use Rattle.share_format.specs.declared.file_error.FileError.TheVariants as errors
-use Rattle.poplar_top.specs.declared.refusal.Refusal.TheVariants.{Missing, TooLong, Header, Cut, LongPrefix, NoStrings, StringsLong, TooMany, LineLong, ZeroByte, Widths, Walk}
+use Rattle.poplar_top.specs.declared.refusal.Refusal.TheVariants.{Missing, TooLong, Header, Cut, LongPrefix, NoStrings, StringsLong, TooMany, LineLong, ZeroByte}
 use Rattle.file_eval.specs.declared.errors.EvalError.{EvalError}
 use Rattle.file_eval.specs.declared.errors.EvalError.TheVariants as evals
-use Rattle.text_strings.specs.Lines.{LinesCase, too_many, line_long, zero_byte}
-use Rattle.text_strings.specs.declared.lines_error.LinesError.{LinesError}
+use Rattle.file_gen.specs.declared.errors.GenError.{GenError}
+use Rattle.file_gen.specs.declared.errors.GenError.TheVariants as gens
 use Rattle.text_strings.specs.declared.lines_error.LinesError.TheVariants as lines
 use Rattle.poplar_top.specs.Refusals.{status_of, line_of}
 use Rattle.poplar_top.specs.Outcomes.{Outcome}
@@ -57,30 +57,16 @@ eval_stop side (evals.File e) = file_stop side e
 eval_stop side (evals.LongPrefix bits width) = stops.Refusal (LongPrefix bits width)
 eval_stop side evals.Memory = stops.Memory
 
--- why a strings file that holds no strings gives none
-abbrev pub lines_stop : LinesError → Stop
-lines_stop (lines.TooMany count) = stops.Refusal (TooMany count)
-lines_stop (lines.LineLong line) = stops.Refusal (LineLong line)
-lines_stop (lines.ZeroByte line) = stops.Refusal (ZeroByte line)
-lines_stop lines.Memory = stops.Memory
-
--- a reason that is a refusal is the one of the lines
-abbrev pub FitsLines : LinesCase → Stop → Type 0
-FitsLines found (stops.Refusal (TooMany count)) = found ≡ too_many count
-FitsLines found (stops.Refusal (LineLong line)) = found ≡ line_long line
-FitsLines found (stops.Refusal (ZeroByte line)) = found ≡ zero_byte line
-FitsLines found (stops.Refusal (Missing side)) = ⊥
-FitsLines found (stops.Refusal (TooLong side)) = ⊥
-FitsLines found (stops.Refusal (Header side at)) = ⊥
-FitsLines found (stops.Refusal (Cut side at)) = ⊥
-FitsLines found (stops.Refusal (LongPrefix bits width)) = ⊥
-FitsLines found (stops.Refusal NoStrings) = ⊥
-FitsLines found (stops.Refusal StringsLong) = ⊥
-FitsLines found (stops.Refusal (Widths zero one)) = ⊥
-FitsLines found (stops.Refusal (Walk why)) = ⊥
-FitsLines found stops.Shelf = ⊥
-FitsLines found stops.Link = ⊥
-FitsLines found stops.Memory = Unit {0}
+-- why the files of `gen` are not made
+abbrev pub gen_stop : GenError → Stop
+gen_stop gens.Missing = stops.Refusal NoStrings
+gen_stop gens.TooLong = stops.Refusal StringsLong
+gen_stop (gens.Lines (lines.TooMany count)) = stops.Refusal (TooMany count)
+gen_stop (gens.Lines (lines.LineLong line)) = stops.Refusal (LineLong line)
+gen_stop (gens.Lines (lines.ZeroByte line)) = stops.Refusal (ZeroByte line)
+gen_stop (gens.Lines lines.Memory) = stops.Memory
+gen_stop gens.Shelf = stops.Shelf
+gen_stop gens.Memory = stops.Memory
 
 -- a reason that is a refusal has one of the statuses that `eval` has, or one that `gen` has; the link is asked by neither
 abbrev pub IsEvalStop : Stop → Type 0
@@ -94,26 +80,3 @@ IsGenStop (stops.Refusal r) = status_of r ≡ 11
 IsGenStop stops.Shelf = Unit {0}
 IsGenStop stops.Link = ⊥
 IsGenStop stops.Memory = Unit {0}
-
--- more bytes than a strings file may have
-abbrev pub IsLong : Option (List ℕ) → Type 0
-IsLong None = ⊥
-IsLong (Some bytes) = 2 ^ 28 < length bytes
-
--- a reason that is a refusal is what the strings file is: not there, or too long
-abbrev pub FitsFile : Option (List ℕ) → Stop → Type 0
-FitsFile found (stops.Refusal NoStrings) = found ≡ None
-FitsFile found (stops.Refusal StringsLong) = IsLong found
-FitsFile found (stops.Refusal (TooMany count)) = ⊥
-FitsFile found (stops.Refusal (LineLong line)) = ⊥
-FitsFile found (stops.Refusal (ZeroByte line)) = ⊥
-FitsFile found (stops.Refusal (Missing side)) = ⊥
-FitsFile found (stops.Refusal (TooLong side)) = ⊥
-FitsFile found (stops.Refusal (Header side at)) = ⊥
-FitsFile found (stops.Refusal (Cut side at)) = ⊥
-FitsFile found (stops.Refusal (LongPrefix bits width)) = ⊥
-FitsFile found (stops.Refusal (Widths zero one)) = ⊥
-FitsFile found (stops.Refusal (Walk why)) = ⊥
-FitsFile found stops.Shelf = Unit {0}
-FitsFile found stops.Link = ⊥
-FitsFile found stops.Memory = Unit {0}

@@ -2,7 +2,6 @@
 //! Its contract says for every command which text is written and which status may stand.
 #![tactic(auto)]
 
-mod generation;
 pub mod laws;
 mod refusal;
 mod run;

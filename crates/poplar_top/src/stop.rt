@@ -1,14 +1,15 @@
 //! Why there is no text to write.
 //! A refusal is that of the words, files and messages; the others are faults met on the way.
 
-ghost use Rattle.std.specs.Prelude.{◌≡◌, ◌⊎◌};
-ghost use Rattle.poplar_top.specs.Stops.{file_stop, eval_stop};
+ghost use Rattle.std.specs.Prelude.{◌≡◌};
+ghost use Rattle.poplar_top.specs.Stops.{file_stop, eval_stop, gen_stop};
 
 use crate::refusal::Refusal;
 use file_eval::EvalError;
+use file_gen::GenError;
 use prefix_bits::Side;
 use share_format::FileError;
-use shelf_io::Refused;
+use text_strings::LinesError;
 
 /// Why a command has no text.
 #[derive(Clone, Copy, Debug, PartialEq, Eq)]
@@ -21,17 +22,6 @@ pub(crate) enum Stop {
     Link,
     /// Memory was wanting.
     Memory,
-}
-
-/// What a refused call of the shelf comes to.
-pub(crate) fn stop_of(refused: Refused) -> Stop
-    ensures shelf { result ≡ Stop.Shelf → refused ≡ Refused.Failed }
-    ensures other { (result ≡ Stop.Shelf) ⊎ (result ≡ Stop.Memory) }
-{
-    match refused {
-        Refused::Failed => Stop::Shelf,
-        Refused::Memory => Stop::Memory,
-    }
 }
 
 /// Why a side's file that is not read whole gives no text.
@@ -58,5 +48,30 @@ pub(crate) fn stop_of_eval(error: EvalError, side: Side) -> Stop
             Stop::Refusal(Refusal::LongPrefix { bits, width })
         }
         EvalError::Memory => Stop::Memory,
+    }
+}
+
+// Why a strings file whose lines give no strings gives none.
+fn stop_of_lines(error: LinesError) -> Stop
+    ensures value { result ≡ gen_stop (GenError.Lines error) }
+{
+    match error {
+        LinesError::TooMany { lines } => Stop::Refusal(Refusal::TooMany { lines }),
+        LinesError::LineLong { line } => Stop::Refusal(Refusal::LineLong { line }),
+        LinesError::ZeroByte { line } => Stop::Refusal(Refusal::ZeroByte { line }),
+        LinesError::Memory => Stop::Memory,
+    }
+}
+
+/// Why the files of `gen` are not made.
+pub(crate) fn stop_of_gen(error: GenError) -> Stop
+    ensures value { result ≡ gen_stop error }
+{
+    match error {
+        GenError::Missing => Stop::Refusal(Refusal::NoStrings),
+        GenError::TooLong => Stop::Refusal(Refusal::StringsLong),
+        GenError::Lines(error) => stop_of_lines(error),
+        GenError::Shelf => Stop::Shelf,
+        GenError::Memory => Stop::Memory,
     }
 }

@@ -7,13 +7,14 @@ ghost use Rattle.shelf_io.specs.Seen.{LinkSeen, SinkSeen, outside, outside_but_l
 ghost use Rattle.poplar_top.specs.Commands.{generates, runs, evaluates};
 ghost use Rattle.poplar_top.specs.Keeps.{KeepsOf, Keeps};
 
-use crate::generation::make_files;
 use crate::run::stop_of_run;
-use crate::stop::stop_of_eval;
+use crate::stop::{stop_of_eval, stop_of_gen};
 use crate::telling::{tell, tell_stop, write_texts};
 use command_words::{is_command, read_eval, read_gen, read_run};
 use file_eval::eval_texts;
+use file_gen::make_files;
 use file_run::{RunRules, run_files};
+use pair_files::PairSettings;
 use shelf_io::{Gate, Link, Shelf, Sink};
 use std::alloc::Global;
 use std::sync::Wait;
@@ -71,9 +72,21 @@ pub fn gen_files<H: Shelf, E: Sink>(
         tell(err, USAGE);
         return 2;
     };
-    match make_files(alloc, &asked, shelf) {
+    let settings = PairSettings {
+        width: asked.width,
+        master: asked.master,
+        tag: asked.tag,
+    };
+    match make_files(
+        alloc,
+        asked.strings,
+        asked.zero,
+        asked.one,
+        &settings,
+        shelf,
+    ) {
         Ok(()) => 0,
-        Err(stop) => tell_stop(alloc, err, stop),
+        Err(error) => tell_stop(alloc, err, stop_of_gen(error)),
     }
 }
 

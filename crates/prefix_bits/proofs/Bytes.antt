@@ -7,7 +7,7 @@ use Rattle.std.proofs.lemmas.Nat.{shr-shr, and_le_r}
 use Rattle.std.proofs.lemmas.Nat.Bits.{bit_at-suc, bit_at_lowest, bit_at_and, bit_at_ones, bit_at-lt}
 use Rattle.prefix_bits.specs.Bits.{bit, low_bits, bits_of_byte, bits_of_bytes, with_bit, byte_of_bits, bytes_of_bits}
 use Rattle.prefix_bits.specs.Stored.{stored_bit, stored_bits}
-use Rattle.prefix_bits.specs.StoredLaws.{same_stored}
+use Rattle.prefix_bits.proofs.StoredLists.{same_stored}
 use Rattle.prefix_bits.proofs.Writes.{get_or-low_bits}
 
 pub length-bits_of_bytes : (bytes : List ℕ) → length (bits_of_bytes bytes) ≡ 8 * length bytes

@@ -1,3 +1,4 @@
+pub mod StoredLists
 pub mod Writes
 pub mod Order
 pub mod Prefixes

@@ -8,7 +8,8 @@ use Rattle.std.proofs.Math.Nat.{mod-eq_of_lt, pow-le-pow_right}
 use Rattle.std.proofs.lemmas.Nat.Bits.{bit_at_or, bit_at-lt, bit_at_above, bit_at_cat_low, bit_at_cat_high, bit_at-zero, bit_at_clear_same, bit_at_clear_other}
 use Rattle.prefix_bits.specs.Bits.{bit, low_bits}
 use Rattle.prefix_bits.specs.Stored.{stored_bit, stored_bits, IsStored}
-use Rattle.prefix_bits.specs.StoredLaws.{length-stored_bits, get_or-stored_bits, same_stored}
+use Rattle.prefix_bits.specs.StoredLaws.{length-stored_bits, get_or-stored_bits}
+use Rattle.prefix_bits.proofs.StoredLists.{same_stored}
 
 -- ---- one bit of a word
 

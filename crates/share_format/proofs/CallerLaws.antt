@@ -25,18 +25,19 @@ end_case number (Some (well_formed other)) e = absurd cc
 end_case number (Some malformed) e = absurd cc
 
 -- one more case at the end of those before
-one_more : (cases : List RecordCase) (number : ℕ) (case : RecordCase) → slice_get cases number ≡ Some case
+pub one_more : (cases : List RecordCase) (number : ℕ) (case : RecordCase) → slice_get cases number ≡ Some case
     → take (number + 1) cases ≡ take number cases ++ case ∷ []
 one_more cases number case e =
     take_more cases number case (slice_get_within cases number case e)
     ∙ ap (λ (c : RecordCase). take number cases ++ c ∷ []) (get_or_from_slice_get cases number case case e)
 
-shares_of-append : (xs ys : List RecordCase) → shares_of (xs ++ ys) ≡ shares_of xs ++ shares_of ys
+-- the shares and the malformed records of two lists of cases, one behind the other
+pub shares_of-append : (xs ys : List RecordCase) → shares_of (xs ++ ys) ≡ shares_of xs ++ shares_of ys
 shares_of-append [] ys = refl
 shares_of-append (well_formed share ∷ xs) ys = ap (λ (ss : List Share). share ∷ ss) (shares_of-append xs ys)
 shares_of-append (malformed ∷ xs) ys = shares_of-append xs ys
 
-malformed_from-append : (first : ℕ) (xs ys : List RecordCase) → malformed_from first (xs ++ ys) ≡ malformed_from first xs ++ malformed_from (first + length xs) ys
+pub malformed_from-append : (first : ℕ) (xs ys : List RecordCase) → malformed_from first (xs ++ ys) ≡ malformed_from first xs ++ malformed_from (first + length xs) ys
 malformed_from-append first [] ys = ap (λ n. malformed_from n ys) (omega arith)
 malformed_from-append first (well_formed share ∷ xs) ys =
     let next : suc first + length xs ≡ first + suc (length xs) = omega arith in

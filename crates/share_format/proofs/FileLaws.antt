@@ -4,10 +4,10 @@ use Rattle.std.proofs.lemmas.Bool.{cases_lt}
 use Rattle.std.proofs.Common.{◌≡◌, ◌≢◌, ℕ, ◌+◌, ◌*◌, ◌-◌, ◌/◌, ◌%◌, ◌<◌, ◌≤◌, Bool, true, false, List, length, get_or, take, Option, None, Some, refl, sym, ap, ap₂, ◌∙◌, arith, eqb, ltb, zero, suc, ◌++◌, ◌∷◌, [], inl, inr, add-one}
 use Rattle.std.specs.Prelude.{◌&&◌, min, slice_get}
 use Rattle.std.proofs.lemmas.Bool.Decides.{nat_tests}
-use Rattle.std.proofs.lemmas.List.{get_or-take, length-take, get_or_append_left, get_or_at, length-append}
+use Rattle.std.proofs.lemmas.List.{take_all, get_or-take, length-take, get_or_append_left, get_or_at, length-append}
 use Rattle.definitions.specs.declared.Side.{Side}
 use Rattle.share_format.specs.Spelling.{record_len}
-use Rattle.share_format.specs.ShareFile.{may_stand, is_header_byte, header_fault, too_long, header_wrong, cut, whole, length_case, header_case, most_bytes, file_case, record_count, record_offset, first_records, record_at, record_case, RecordCase, malformed}
+use Rattle.share_format.specs.ShareFile.{may_stand, is_header_byte, header_fault, too_long, header_wrong, cut, whole, length_case, header_case, most_bytes, file_case, record_count, record_offset, records, first_records, record_at, record_case, RecordCase, malformed}
 use Rattle.share_format.proofs.FailingLaws.{first_failing-same}
 
 same_there : (n at : ℕ) → at < 8 → ltb at (min 8 n) ≡ ltb at n
@@ -81,6 +81,14 @@ length-first_records width bytes zero = refl
 length-first_records width bytes (suc count) =
     length-append (first_records width bytes count) (record_case width (record_at width bytes count) ∷ [])
     ∙ ap (λ n. n + 1) (length-first_records width bytes count) ∙ add-one count
+
+-- the file's records are as many as its length says
+pub length-records : (width : ℕ) (bytes : List ℕ) → length (records width bytes) ≡ record_count width bytes
+length-records width bytes = length-first_records width bytes (record_count width bytes)
+
+-- so many of them are all
+pub all_records : (width : ℕ) (bytes : List ℕ) (k : ℕ) → record_count width bytes ≡ k → take k (records width bytes) ≡ records width bytes
+all_records width bytes k e = take_all k (records width bytes) (omega (arith, length-records width bytes, e))
 
 -- the case of the record of a number
 case_at : (width : ℕ) (bytes : List ℕ) (count number : ℕ) → number < count

@@ -1,5 +1,5 @@
 -- Each kind of step keeps the rule of the claims.
-use Rattle.std.proofs.Common.{◌≡◌, ◌≢◌, ℕ, zero, suc, ◌+◌, ◌<◌, ◌≤◌, ◌^◌, ◌%◌, ◌==◌, cond, not, nat_lt, List, [], ◌∷◌, ◌++◌, length, set, sum_by, slice_index, refl, sym, ap, ◌∙◌, subst, arith}
+use Rattle.std.proofs.Common.{◌≡◌, ◌≢◌, ℕ, ◌+◌, ◌<◌, ◌≤◌, ◌^◌, ◌%◌, ◌==◌, cond, not, nat_lt, List, [], ◌∷◌, ◌++◌, length, set, sum_by, slice_index, refl, sym, ap, ◌∙◌, subst, arith}
 use Rattle.std.specs.List.{AllByRecursion}
 use Rattle.std.proofs.lemmas.List.Sums.{sum_by_push, sum_by-append}
 use Rattle.std.proofs.lemmas.List.{length-append}
@@ -12,16 +12,9 @@ use Rattle.tile_claims.specs.declared.views.View.{View}
 use Rattle.tile_claims.specs.declared.views.DrawerList.{DrawerList}
 use Rattle.tile_claims.specs.Lists.{times, once_below, large}
 use Rattle.tile_claims.specs.Views.{view_of, drawer_list, lists_of, drawn_in, large_in, IsDrawerList, Fits, IsClaimed, Claimed, Claims, counts_on, newcomer, both, spent, IsWhole}
-use Rattle.tile_claims.proofs.Totals.{total_set, part_of, two_of, within, kept, fit_set, fit_push, whole}
-use Rattle.tile_claims.proofs.Numbers.{each_append, each_of_times, times_push, large_push, once_more, is_below, one_more, at_most_one, ascends_push, large_few}
-
-same_drawer : (a k x : ℕ) → a ≡ k → ◌≡◌ {A = ℕ} (cond (a == x) 1 0) (cond (k == x) 1 0)
-same_drawer a k x e = rw e refl
-
--- one view at most keeps the count
-one_counts : (k l n : ℕ) → k + l ≤ n → (0 < k → k ≡ n) → (0 < l → l ≡ n) → 0 < k + l → k + l ≡ n
-one_counts zero l n lt a b some_count = omega (arith, b (omega (arith, some_count)))
-one_counts (suc k) l n lt a b some_count = omega (arith, lt, a (omega arith))
+use Rattle.list_totals.proofs.Totals.{total_set, part_of, two_of, within, kept, fit_set, fit_push, whole, one_counts, same_test}
+use Rattle.list_totals.proofs.Elements.{each_append}
+use Rattle.tile_claims.proofs.Numbers.{each_of_times, times_push, large_push, once_more, is_below, one_more, at_most_one, ascends_push, large_few}
 
 module _ (drawers : ℕ) where
   module _ (count n : ℕ) (views : List View) (r : IsClaimed drawers count n views) where
@@ -98,7 +91,7 @@ module _ (drawers : ℕ) where
           most = r.most;
           made = omega (arith, total_set (λ (u : View). u.made) views id v left at, sum_by_push (λ (u : View). u.made) put right, r.made);
           lists = omega (arith, total_set (λ (u : View). length u.lists) views id v left at, sum_by_push (λ (u : View). length u.lists) put right, r.lists);
-          drawers_once = λ d. omega (arith, total_set (lists_of d) views id v left at, sum_by_push (lists_of d) put right, r.drawers_once d, once_more d count, same_drawer v.made count d all);
+          drawers_once = λ d. omega (arith, total_set (lists_of d) views id v left at, sum_by_push (lists_of d) put right, r.drawers_once d, once_more d count, same_test v.made count d all);
           numbers_once = λ x. omega (arith, total_set (drawn_in x) views id v left at, sum_by_push (drawn_in x) put right, r.numbers_once x);
           bound = omega (arith, total_set large_in views id v left at, sum_by_push large_in put right, r.bound);
           fit = fit_push (Fits (count + 1)) put right

@@ -1,5 +1,4 @@
 pub mod Cutting
-mod Totals
 pub mod Numbers
 mod Keeping
 mod Dealing

@@ -3,22 +3,10 @@ use Rattle.std.proofs.Common.{◌≡◌, ℕ, ◌+◌, ◌<◌, ◌≤◌, ◌^�
 use Rattle.std.specs.List.{AllByRecursion}
 use Rattle.std.proofs.lemmas.List.Sums.{sum_by-cons, sum_by_push, sum_by-append}
 use Rattle.std.proofs.lemmas.Bool.Decides.{nat_tests}
+use Rattle.list_totals.proofs.Elements.{each_append}
 use Rattle.tile_claims.specs.declared.views.DrawerList.{DrawerList}
 use Rattle.tile_claims.specs.Views.{IsDrawerList}
 use Rattle.tile_claims.specs.Lists.{Ascends, times, once_below, large}
-
-module _ {X : Type 0} where
-  pub each_map : (F G : X → Type 0) → ((x : X) → F x → G x) → (xs : List X) → AllByRecursion F xs → AllByRecursion G xs
-  each_map F G f [] h = tt
-  each_map F G f (x ∷ xs) h = (f x h.0, each_map F G f xs h.1)
-
-  pub each_append : (F : X → Type 0) (xs ys : List X) → AllByRecursion F xs → AllByRecursion F ys → AllByRecursion F (xs ++ ys)
-  each_append F [] ys h k = k
-  each_append F (x ∷ xs) ys h k = (h.0, each_append F xs ys h.1 k)
-
-  pub each_last : (F : X → Type 0) (xs : List X) (x : X) → AllByRecursion F (xs ++ x ∷ []) → F x × AllByRecursion F xs
-  each_last F [] x h = (h.0, tt)
-  each_last F (y ∷ ys) x h = let more = each_last F ys x h.1 in (more.0, (h.0, more.1))
 
 -- what is told of each number that stands in the list is told of each element
 pub each_of_times : (F : ℕ → Type 0) (xs : List ℕ) → ((x : ℕ) → 0 < times x xs → F x) → AllByRecursion F xs

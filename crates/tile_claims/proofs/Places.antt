@@ -3,7 +3,7 @@ use Rattle.std.proofs.Common.{◌≡◌, ℕ, zero, suc, ◌+◌, ◌<◌, ◌==
 use Rattle.std.proofs.lemmas.List.Sums.{sum_by-cons}
 use mathlib.Core.Option.{some, some-injective}
 use lib.ListN.{get_elem?}
-use Rattle.tile_claims.proofs.Totals.{part_of}
+use Rattle.list_totals.proofs.Totals.{part_of}
 
 -- who counts 1 has the property, and else counts 0
 pub is_counted : (a k : ℕ) → 0 < cond (a == k) 1 0 → a ≡ k

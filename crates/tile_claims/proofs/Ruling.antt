@@ -11,7 +11,7 @@ use Rattle.tile_claims.specs.ExactlyOne.{ExactlyOne}
 use Rattle.tile_claims.specs.Lists.{Ascends, times, once_below, large}
 use Rattle.tile_claims.specs.Views.{lists_of, drawn_in, large_in, IsDrawerList, IsClaimed}
 use Rattle.tile_claims.specs.Rule.{KeepsCount, HasList, HasListOf, HasNumber, lists_with_large, Rule}
-use Rattle.tile_claims.proofs.Totals.{part_of, within}
+use Rattle.list_totals.proofs.Totals.{part_of, within}
 use Rattle.tile_claims.proofs.Numbers.{is_below}
 use Rattle.tile_claims.proofs.Keeping.{few_numbers}
 use Rattle.tile_claims.proofs.Places.{is_counted, OnePlace, whole_place, one_place, same_value}

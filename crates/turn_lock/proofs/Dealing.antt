@@ -5,7 +5,8 @@ use Rattle.atomic_table.specs.Table.{Me}
 use Rattle.turn_lock.specs.declared.views.View.{View}
 use Rattle.turn_lock.specs.Seen.{LockId, PassSeen, fresh_pass, fresh_passes}
 use Rattle.turn_lock.specs.Seats.{resting, new_pass}
-use Rattle.turn_lock.proofs.Lists.{further, length_push}
+use Rattle.list_totals.proofs.Elements.{further}
+use Rattle.turn_lock.proofs.Lists.{length_push}
 
 -- the keeper counts so many, and all of them but the first are made, in order
 pub record Deals {S P E : Type 0} (lock : LockId P) (count : ℕ) (made : List (PassSeen P E)) (me : Me S (View P E)) : Type 0 where

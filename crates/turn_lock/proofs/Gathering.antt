@@ -7,7 +7,8 @@ use Rattle.atomic_table.specs.Table.{Me}
 use Rattle.turn_lock.specs.declared.views.View.{View}
 use Rattle.turn_lock.specs.Seen.{PassSeen}
 use Rattle.turn_lock.specs.Seats.{resting, mine_of}
-use Rattle.turn_lock.proofs.Lists.{each_last, map_last}
+use Rattle.list_totals.proofs.Elements.{each_last}
+use Rattle.turn_lock.proofs.Lists.{map_last}
 use Rattle.turn_lock.proofs.Told.{rested}
 
 -- the seat has what was handed in of all, and the rest is left

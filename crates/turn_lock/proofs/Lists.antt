@@ -1,22 +1,10 @@
 -- Facts on each element of a list.
-use Rattle.std.proofs.Common.{◌≡◌, ℕ, zero, suc, ◌+◌, List, [], ◌∷◌, ◌++◌, length, map, count_by, cond, ◌==◌, refl, ap, ◌∙◌, arith}
+use Rattle.std.proofs.Common.{◌≡◌, ℕ, suc, List, [], ◌∷◌, ◌++◌, length, map, count_by, cond, ◌==◌, refl, ap, arith}
 use Rattle.std.proofs.lemmas.List.Sums.{sum_by-cons}
 use Rattle.turn_lock.specs.declared.views.Mine.{Mine}
-use Rattle.std.specs.List.{AllByRecursion, range_with_len}
+use Rattle.std.specs.List.{AllByRecursion}
 use Rattle.turn_lock.specs.Seen.{PassSeen}
 use Rattle.turn_lock.specs.Seats.{numbered, mine_of}
-
--- a further number, at the end of those from a on
-pub further : {X : Type 0} (f : ℕ → X) (a n : ℕ) → map f (range_with_len a n) ++ f (a + n) ∷ [] ≡ map f (range_with_len a (suc n))
-further f a zero = let e : a + 0 ≡ a = omega arith in ap (λ k. f k ∷ []) e
-further f a (suc n) =
-    let e : a + suc n ≡ a + 1 + n = omega arith in
-    ap (λ l. f a ∷ l) (ap (λ k. map f (range_with_len (a + 1) n) ++ f k ∷ []) e ∙ further f (a + 1) n)
-
-module _ {X : Type 0} where
-  pub each_last : (F : X → Type 0) (xs : List X) (x : X) → AllByRecursion F (xs ++ x ∷ []) → F x × AllByRecursion F xs
-  each_last F [] x h = (h.0, tt)
-  each_last F (y ∷ ys) x h = let more = each_last F ys x h.1 in (more.0, (h.0, more.1))
 
 -- passes as a seat keeps them
 module _ {P E : Type 0} where

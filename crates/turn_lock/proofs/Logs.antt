@@ -4,20 +4,13 @@ use Rattle.std.proofs.lemmas.List.{append-nil, append_assoc}
 use Rattle.std.proofs.lemmas.List.Elements.{filter-append}
 use Rattle.std.proofs.lemmas.List.Sums.{sum_by-cons}
 use mathlib.Core.List.{IsPrefix}
+use Rattle.list_totals.proofs.Elements.{each_map}
 use Rattle.turn_lock.specs.declared.views.Mine.{Mine}
 use Rattle.std.specs.List.{AllByRecursion}
 use Rattle.turn_lock.specs.Logs.{entries_of}
 use Rattle.turn_lock.specs.Seats.{numbered, Knows, gave, number_of, own_of, HasPlan}
 
 module _ {X : Type 0} where
-  pub each_map : (F G : X → Type 0) → ((x : X) → F x → G x) → (xs : List X) → AllByRecursion F xs → AllByRecursion G xs
-  each_map F G f [] h = tt
-  each_map F G f (x ∷ xs) h = (f x h.0, each_map F G f xs h.1)
-
-  pub each_append : (F : X → Type 0) (xs ys : List X) → AllByRecursion F xs → AllByRecursion F ys → AllByRecursion F (xs ++ ys)
-  each_append F [] ys h k = k
-  each_append F (x ∷ xs) ys h k = (h.0, each_append F xs ys h.1 k)
-
   pub longer : (xs ys zs : List X) → IsPrefix xs ys → IsPrefix xs (ys ++ zs)
   longer xs ys zs h = (h.0 ++ zs, sym (append_assoc xs h.0 zs) ∙ ap (λ l. l ++ zs) h.1)
 

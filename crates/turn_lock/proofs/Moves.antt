@@ -15,14 +15,13 @@ use Rattle.turn_lock.specs.Places.{once_below}
 use Rattle.turn_lock.specs.Logs.{entries_of}
 use Rattle.turn_lock.specs.Seats.{resting, waiting, inside, new_pass, numbered, Knows, Watches, Draws, gave, Leaves, counts_on, newcomer, both, number_of, HasPlan}
 use Rattle.turn_lock.specs.Kept.{between, holds_ticket, has_one, in_turn, Fits, IsKept, Kept, IsWhole}
-use Rattle.turn_lock.proofs.Totals.{total_set, part_of, two_of, within, within_less, kept, fit_set, fit_push, whole}
+use Rattle.list_totals.proofs.Totals.{total_set, part_of, two_of, within, kept, fit_set, fit_push, whole, one_counts, same_test}
+use Rattle.list_totals.proofs.Elements.{each_map, each_append}
+use Rattle.turn_lock.proofs.Totals.{within_less}
 use Rattle.turn_lock.proofs.Longest.{here, saw_left, saw_right, seen_set, seen_push, seen_join}
 use Rattle.turn_lock.proofs.Told.{same_some}
-use Rattle.turn_lock.proofs.Logs.{each_map, each_append, grown_own, grown, none_yet}
+use Rattle.turn_lock.proofs.Logs.{grown_own, grown, none_yet}
 use Rattle.turn_lock.proofs.Counts.{between_more, between_less, is_between, at_most_one, below, once_at_most, one_more}
-
-same_count : (a k x : ℕ) → a ≡ k → ◌≡◌ {A = ℕ} (cond (a == x) 1 0) (cond (k == x) 1 0)
-same_count a k x e = rw e refl
 
 module _ {P E : Type 0} where
   pub holds_own : (x : ℕ) (v : View P E) → v.has ≡ true → v.ticket ≡ x → holds_ticket x v ≡ 1
@@ -291,7 +290,7 @@ module _ {S P E : Type 0} (plan : S → P) (log : S → List E) (by : E → ℕ)
           few = (omega (arith, all, room), r.few.1);
           made = omega (arith, total_set (λ (u : View P E). u.made) s.views id v left at, sum_by_push (λ (u : View P E). u.made) put right, r.made);
           lists = omega (arith, total_set (λ (u : View P E). length u.mine) s.views id v left at, sum_by_push (λ (u : View P E). length u.mine) put right, r.lists);
-          numbers = λ x. omega (arith, total_set (λ (u : View P E). numbered x u.mine) s.views id v left at, sum_by_push (λ (u : View P E). numbered x u.mine) put right, r.numbers x, one_more x n, same_count made n x all);
+          numbers = λ x. omega (arith, total_set (λ (u : View P E). numbered x u.mine) s.views id v left at, sum_by_push (λ (u : View P E). numbered x u.mine) put right, r.numbers x, one_more x n, same_test made n x all);
           count = omega (arith, total_set has_one s.views id v left at, sum_by_push has_one put right, r.count);
           tickets = λ x. omega (arith, total_set (holds_ticket x) s.views id v left at, sum_by_push (holds_ticket x) put right, r.tickets x);
           fit = fit_push (Fits by p (n + 1) serving b) put right
@@ -304,11 +303,6 @@ module _ {S P E : Type 0} (plan : S → P) (log : S → List E) (by : E → ℕ)
           home = λ none. r.home (omega (arith, total_set in_turn s.views id v left at, sum_by_push in_turn put right, none));
         },
       )
-
-  -- one view at most keeps the count
-  one_counts : (k l n : ℕ) → k + l ≤ n → (0 < k → k ≡ n) → (0 < l → l ≡ n) → 0 < k + l → k + l ≡ n
-  one_counts zero l n lt a b some_count = omega (arith, b (omega (arith, some_count)))
-  one_counts (suc k) l n lt a b some_count = omega (arith, lt, a (omega arith))
 
   pub joins : (id other k l : ℕ) (ms ns : List (Mine P E))
       → Joins {S = Option S} Law id (resting k ms) other (resting l ns) (both (resting k ms) (resting l ns)) (resting 0 [])

@@ -12,8 +12,8 @@ use Rattle.turn_lock.specs.Logs.{entries_of}
 use Rattle.turn_lock.specs.Seats.{numbered, Knows}
 use Rattle.turn_lock.specs.Kept.{holds_ticket, has_one, in_turn, Saw, IsKept}
 use Rattle.turn_lock.specs.Rule.{Counts, HoldsTicket, IsOrderly}
-use Rattle.turn_lock.proofs.Totals.{part_of, two_of}
-use Rattle.turn_lock.proofs.Logs.{each_map}
+use Rattle.list_totals.proofs.Totals.{part_of, two_of}
+use Rattle.list_totals.proofs.Elements.{each_map}
 use Rattle.turn_lock.proofs.Counts.{below, once_is, once_at_most, is_between, between_is, at_most_one}
 use Rattle.turn_lock.proofs.Moves.{holds_own, few_out}
 

@@ -13,7 +13,7 @@ use Rattle.walk_definitions.proofs.Order.{Member, AllAbove, Rises, numbers_order
 
 -- ---- equality of shares is decided
 
-bytes-is : (xs ys : List ℕ) → same_bytes xs ys ≡ true → xs ≡ ys
+pub bytes-is : (xs ys : List ℕ) → same_bytes xs ys ≡ true → xs ≡ ys
 bytes-is [] [] e = refl
 bytes-is [] (y ∷ ys) e = cc
 bytes-is (x ∷ xs) [] e = cc
@@ -21,7 +21,7 @@ bytes-is (x ∷ xs) (y ∷ ys) e =
     let parts = and_parts (nat_eq x y) (same_bytes xs ys) e in
     let first = eqb-true x y parts.0 in let rest = bytes-is xs ys parts.1 in cc
 
-bytes-self : (xs : List ℕ) → same_bytes xs xs ≡ true
+pub bytes-self : (xs : List ℕ) → same_bytes xs xs ≡ true
 bytes-self [] = refl
 bytes-self (x ∷ xs) = and_from (nat_eq x x) (same_bytes xs xs) (eq-eqb x x refl) (bytes-self xs)
 
@@ -134,7 +134,7 @@ all-from s (u ∷ us) h =
     and_from (same_share s u) (list_all (same_share s) us)
     (subst (λ w. same_share s w ≡ true) (sym (h u (inl refl))) (share-self s)) (all-from s us (λ t m. h t (inr m)))
 
-agreed-is : (ts : List Share) (s : Share) → agreed ts ≡ Some s → IsAmong s ts × ((t : Share) → IsAmong t ts → t ≡ s)
+pub agreed-is : (ts : List Share) (s : Share) → agreed ts ≡ Some s → IsAmong s ts × ((t : Share) → IsAmong t ts → t ≡ s)
 agreed-is [] s e = let no : ⊥ = cc in absurd no
 agreed-is (u ∷ us) s e = at (list_all (same_share u) us) refl e
   where
@@ -148,7 +148,7 @@ agreed-is (u ∷ us) s e = at (list_all (same_share u) us) refl e
         each same t (inr m) = all-is u us all t m ∙ same
     at false all e = let no : ⊥ = cc in absurd no
 
-agreed-from : (ts : List Share) (s : Share) → IsAmong s ts → ((t : Share) → IsAmong t ts → t ≡ s) → agreed ts ≡ Some s
+pub agreed-from : (ts : List Share) (s : Share) → IsAmong s ts → ((t : Share) → IsAmong t ts → t ≡ s) → agreed ts ≡ Some s
 agreed-from [] s m h = absurd m
 agreed-from (u ∷ us) s m h =
     let first : u ≡ s = h u (inl refl) in
@@ -167,7 +167,7 @@ same_agreed ts us same = at (agreed ts) (agreed us) refl refl
 
 -- ---- shares of one id, and ids
 
-filter-among : (p : Share → Bool) (s : Share) (ts : List Share) → IsAmong s (filter p ts) → IsAmong s ts × (p s ≡ true)
+pub filter-among : (p : Share → Bool) (s : Share) (ts : List Share) → IsAmong s (filter p ts) → IsAmong s ts × (p s ≡ true)
 filter-among p s [] m = absurd m
 filter-among p s (t ∷ ts) m = at (p t) refl m (filter-among p s ts)
   where
@@ -177,7 +177,7 @@ filter-among p s (t ∷ ts) m = at (p t) refl m (filter-among p s ts)
     at true e (inr m) more = let rest = more m in (inr rest.0, rest.1)
     at false e m more = let rest = more m in (inr rest.0, rest.1)
 
-among-filter : (p : Share → Bool) (s : Share) (ts : List Share) → IsAmong s ts → p s ≡ true → IsAmong s (filter p ts)
+pub among-filter : (p : Share → Bool) (s : Share) (ts : List Share) → IsAmong s ts → p s ≡ true → IsAmong s (filter p ts)
 among-filter p s [] m e = absurd m
 among-filter p s (t ∷ ts) m e = at (p t) refl m (λ n. among-filter p s ts n e)
   where
@@ -195,15 +195,15 @@ same_standing shares others id same =
       (λ s m. let is = filter-among p s others m in among-filter p s shares (same.1 s is.0) is.1),
     )
 
-abbrev ids : List Share → List (List ℕ)
+abbrev pub ids : List Share → List (List ℕ)
 ids shares = map (λ s. s.id) shares
 
-id-among : (id : List ℕ) (shares : List Share) → Member id (ids shares) → (s : Share) × IsAmong s shares × (s.id ≡ id)
+pub id-among : (id : List ℕ) (shares : List Share) → Member id (ids shares) → (s : Share) × IsAmong s shares × (s.id ≡ id)
 id-among id [] m = absurd m
 id-among id (s ∷ ss) (inl e) = (s, inl refl, e)
 id-among id (s ∷ ss) (inr m) = let rest = id-among id ss m in (rest.0, inr rest.1, rest.2)
 
-among-id : (s : Share) (id : List ℕ) (shares : List Share) → s.id ≡ id → IsAmong s shares → Member id (ids shares)
+pub among-id : (s : Share) (id : List ℕ) (shares : List Share) → s.id ≡ id → IsAmong s shares → Member id (ids shares)
 among-id s id [] e m = absurd m
 among-id s id (t ∷ ts) e (inl f) = inl (ap (λ w. w.id) f ∙ e)
 among-id s id (t ∷ ts) e (inr m) = inr (among-id s id ts e m)

@@ -12,7 +12,7 @@ use Rattle.walk_definitions.specs.Laws.{OrderLaw}
 use Rattle.walk_definitions.proofs.Order.{IsOrder, Member, lists_ordered, same_ascending}
 use Rattle.walk_definitions.proofs.Ascent.{same, same-refl, same-is}
 
-bits_ordered : IsOrder (λ a b. not a && b)
+pub bits_ordered : IsOrder (λ a b. not a && b)
 bits_ordered = record { self = self; through = through; either = either }
   where
     self : (x : Bool) → not x && x ≡ false

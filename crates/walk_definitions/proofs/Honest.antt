@@ -93,13 +93,13 @@ all_long bits level [] (s ∷ ss) g h = absurd g
 all_long bits level (r ∷ rs) [] g h = absurd g
 all_long bits level (r ∷ rs) (s ∷ ss) g h = (take_long level s (omega (arith, g.0)), all_long bits level rs ss g.2 h)
 
-xor_false : (a b : Bool) → xor a b ≡ false → a ≡ b
+pub xor_false : (a b : Bool) → xor a b ≡ false → a ≡ b
 xor_false true true e = refl
 xor_false true false e = cc
 xor_false false b e = sym e
 
 -- a prefix of a string is its front
-front : (q s : List Bool) → is_prefix q s ≡ true → take (length q) s ≡ q
+pub front : (q s : List Bool) → is_prefix q s ≡ true → take (length q) s ≡ q
 front [] s e = refl
 front (b ∷ q) [] e = cc
 front (b ∷ q) (a ∷ s) e = at (xor b a) refl (front q s) e
@@ -126,7 +126,8 @@ has-front q (s ∷ ss) h = at (is_prefix q s) refl (has-front q ss)
 
 -- ---- the walk
 
-as_many : (bits : ℕ) (reports : List Report) (strings : List (List Bool)) → AreGenerated bits reports strings → length reports ≡ length strings
+-- as many reports as strings
+pub as_many : (bits : ℕ) (reports : List Report) (strings : List (List Bool)) → AreGenerated bits reports strings → length reports ≡ length strings
 as_many bits [] [] g = refl
 as_many bits [] (s ∷ ss) g = absurd g
 as_many bits (r ∷ rs) [] g = absurd g

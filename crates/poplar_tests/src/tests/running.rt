@@ -35,10 +35,11 @@ enum Change {
 }
 
 // A name, the file that it is made of, and how.
-const CHANGED: [(&str, &str, Change); 11] = [
+const CHANGED: [(&str, &str, Change); 12] = [
     ("head0", "a0", Change::Front(8)),
     ("head1", "a1", Change::Front(8)),
     ("wide_head1", "f1", Change::Front(8)),
+    ("cut0", "f0", Change::Front(3367)),
     ("cut1", "f1", Change::Front(3367)),
     ("twice0", "a0", Change::Followed("a0", 8, 608)),
     ("twice1", "a1", Change::Followed("a1", 8, 608)),
@@ -240,7 +241,7 @@ fn changed(
 }
 
 // A shelf with the made files and the changed ones.
-fn filled(alloc: Global) -> Result<MemoryShelf, AllocError> {
+pub(super) fn filled(alloc: Global) -> Result<MemoryShelf, AllocError> {
     let mut shelf = MemoryShelf::new(alloc, Vec::new(alloc));
     for (width, text, zero, one) in MADE {
         shelf = with_shares(alloc, shelf, width, text, zero, one)?;

@@ -9,7 +9,8 @@ use Rattle.pair_run.specs.Parts.{GoesOn, exchange}
 use Rattle.shelf_io.specs.Seen.{IsReady}
 use Rattle.pair_run.specs.Talking.{Passed, SentPart}
 use Rattle.pair_run.proofs.Followed.{err_same, stops_as, passed_map, part_whole, if_ok, if_err, if_err_too}
-use Rattle.pair_run.proofs.Views.{added_goes, added_stops, added_ends, length_paired, paired_swap}
+use Rattle.walk_definitions.proofs.TrueLink.{paired-swap}
+use Rattle.pair_run.proofs.Views.{added_goes, added_stops, added_ends, length_paired}
 use Rattle.pair_run.proofs.agreement.agreed_sums.Goals as goal
 
 pub returns-in_err-to0-clause-stops : goal.returns-in_err-to0-clause-stops
@@ -106,5 +107,5 @@ returns-clause-partly g c =
     if_err_too c.compared.result (c.in_ok-sums0.sums0.items ≡ c.deref-3.result.now → ⊥) (IsView kind c.args.level c.in_ok-sums0.sums0.items c.deref-3.result.now)
     (λ e. IsReady (g.K.Link.is_true c.args.link.now) talk0 → (end_of e ≡ None) × SentPart talk0 talk1 both)
     (λ e unequal view ready. let truly = c.in_ok-to0.ensures.truly ready in
-    absurd (unequal (sums0 ∙ ap (paired add own0) truly.0 ∙ sym (paired_swap own0 own1) ∙ sym (ap (paired add own1) truly.1) ∙ sym sums1)))
+    absurd (unequal (sums0 ∙ ap (paired add own0) truly.0 ∙ sym (paired-swap own0 own1) ∙ sym (ap (paired add own1) truly.1) ∙ sym sums1)))
     c.compared.ensures.unequal c.compared.ensures.view

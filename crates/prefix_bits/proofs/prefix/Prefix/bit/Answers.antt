@@ -2,7 +2,8 @@ use Rattle.std.proofs.Common.{◌≡◌, ◌*◌, ◌/◌, ◌%◌, ◌-◌, ◌
 use Rattle.std.proofs.lemmas.Option.{slice_get-get_or}
 use Rattle.std.proofs.lemmas.Nat.Bits.{shr_and_one}
 use Rattle.prefix_bits.specs.Stored.{stored_bit}
-use Rattle.prefix_bits.specs.StoredLaws.{len_of, get_or-stored_bits}
+use Rattle.prefix_bits.specs.StoredLaws.{get_or-stored_bits}
+use Rattle.prefix_bits.proofs.StoredLists.{len_of}
 use Rattle.prefix_bits.specs.declared.TheConstants.{MOST_BITS}
 use Rattle.prefix_bits.specs.declared.prefix.TheConstants.{WORDS}
 use Rattle.prefix_bits.proofs.prefix.Prefix.bit.Goals as goal

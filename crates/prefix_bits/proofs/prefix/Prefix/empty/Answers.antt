@@ -1,6 +1,6 @@
 use Rattle.std.proofs.Common.{refl}
 use Rattle.prefix_bits.specs.Stored.{stored_bits}
-use Rattle.prefix_bits.specs.StoredLaws.{IsStored-zeros}
+use Rattle.prefix_bits.proofs.StoredLists.{IsStored-zeros}
 use Rattle.prefix_bits.specs.declared.TheConstants.{MOST_BITS}
 use Rattle.prefix_bits.specs.declared.prefix.TheConstants.{WORDS}
 use Rattle.prefix_bits.proofs.prefix.Prefix.empty.Goals as goal

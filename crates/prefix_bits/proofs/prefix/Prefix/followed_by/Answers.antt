@@ -1,6 +1,6 @@
 use Rattle.std.proofs.Common.{arith, ◌≡◌, ◌*◌, ◌∙◌, ◌++◌, ap}
 use Rattle.prefix_bits.specs.Bits.{low_bits}
-use Rattle.prefix_bits.specs.StoredLaws.{len_of}
+use Rattle.prefix_bits.proofs.StoredLists.{len_of}
 use Rattle.prefix_bits.specs.declared.TheConstants.{MOST_BITS}
 use Rattle.prefix_bits.specs.declared.prefix.TheConstants.{WORDS}
 use Rattle.prefix_bits.proofs.Writes.{IsStored-followed, stored_bits-followed}

@@ -3,7 +3,7 @@ use Rattle.std.specs.List.{AllByRecursion}
 use Rattle.atomic_table.specs.Table.{Me}
 use Rattle.tile_claims.specs.declared.views.View.{View}
 use Rattle.tile_claims.specs.Drawers.{ClaimsSeen, DrawerSeen, list_of}
-use Rattle.tile_claims.proofs.Numbers.{each_map, each_last}
+use Rattle.list_totals.proofs.Elements.{each_map, each_last}
 use Rattle.tile_claims.proofs.Handed.{map_last, all_taken_in, drawn_once, drawn_ascend, numbered_once}
 use Rattle.tile_claims.proofs.claim.Claims.close.Goals as goal
 

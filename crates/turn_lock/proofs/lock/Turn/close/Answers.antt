@@ -7,7 +7,7 @@ use Rattle.turn_lock.specs.Logs.{entries_of}
 use Rattle.turn_lock.specs.Seen.{LockId, PassSeen}
 use Rattle.turn_lock.specs.Seats.{Knows, mine_of}
 use Rattle.turn_lock.specs.Kept.{IsWhole}
-use Rattle.turn_lock.proofs.Logs.{each_map}
+use Rattle.list_totals.proofs.Elements.{each_map}
 use Rattle.turn_lock.proofs.Lists.{each_mine, numbered_mine}
 use Rattle.turn_lock.proofs.lock.Turn.close.Given
 use Rattle.turn_lock.proofs.lock.Turn.close.Goals as goal

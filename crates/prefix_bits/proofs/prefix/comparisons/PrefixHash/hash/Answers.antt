@@ -2,7 +2,8 @@ use Rattle.std.proofs.Common.{◌≡◌, ◌∙◌, ap, sym}
 use Rattle.std.specs.Hash as fed
 use Rattle.std.specs.Hash.{fed_then}
 use Rattle.prefix_bits.specs.Stored.{words_of}
-use Rattle.prefix_bits.specs.StoredLaws.{words_of-stored, len_of}
+use Rattle.prefix_bits.specs.StoredLaws.{words_of-stored}
+use Rattle.prefix_bits.proofs.StoredLists.{len_of}
 use Rattle.prefix_bits.specs.declared.TheConstants.{MOST_BITS}
 use Rattle.prefix_bits.specs.declared.prefix.TheConstants.{WORDS}
 use Rattle.prefix_bits.proofs.prefix.comparisons.PrefixHash.hash.Goals as goal

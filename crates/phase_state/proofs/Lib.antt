@@ -1,0 +1,7 @@
+pub mod Lists
+mod Steps
+mod Cutting
+mod Growing
+pub mod Marks
+mod Posts
+mod Filled

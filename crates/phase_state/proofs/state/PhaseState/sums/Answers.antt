@@ -1,0 +1,6 @@
+use Rattle.std.proofs.Common.{◌∙◌}
+use Rattle.phase_state.proofs.Posts.{sums_whole}
+use Rattle.phase_state.proofs.state.PhaseState.sums.Goals as goal
+
+pub returns-clause-plain : goal.returns-clause-plain
+returns-clause-plain c = rw (← c.self.view_is) (λ each kind. c.as_slice.ensures.value ∙ sums_whole _ _ _ _ _ _ c.self.invariant each kind)

@@ -1,0 +1,5 @@
+pub mod Sums
+pub mod Logs
+pub mod Phases
+pub mod Rooms
+pub mod Loops

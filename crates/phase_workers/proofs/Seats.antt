@@ -1,0 +1,48 @@
+-- A worker who sits down, and one who gets up.
+use Rattle.std.proofs.Common.{◌≡◌, ℕ, Bool, List, [], ◌∷◌, map, refl, ap, sym, ◌∙◌, subst}
+use Rattle.std.specs.Prelude.{Option, Some, None}
+use Rattle.std.specs.List.{AllByRecursion, range_with_len}
+use Rattle.atomic_table.specs.Seated.{TableId}
+use Rattle.tile_claims.specs.Drawers.{DrawerSeen}
+use Rattle.turn_lock.specs.Seen.{LockId, PassSeen, fresh_pass}
+use Rattle.lock_row.specs.Rows.{locks_of, fresh_row, fresh_rows}
+use Rattle.core_definitions.specs.Phase.{Posting}
+use Rattle.phase_state.specs.declared.phase_plan.PlanSeen.{PlanSeen}
+use Rattle.phase_state.specs.Rooms.{RoomSeen, HasRoom}
+use Rattle.level_totals.specs.Levels.{LevelSeen, LevelPassSeen, own_of}
+use Rattle.phase_workers.specs.declared.worker.Worker.{Worker}
+use Rattle.phase_workers.specs.Marked.{Waiting, Home, IsPaired, IsFreshDrawer, IsFreshPass}
+
+abbrev seated : DrawerSeen → LevelPassSeen → RoomSeen → Worker
+seated d p room = record { drawer = d; pass = p; room = room }
+
+pub waiting_of : (level : LevelSeen) (table : TableId) (d : DrawerSeen) (p : LevelPassSeen) (room : RoomSeen) → IsFreshDrawer table d → IsFreshPass level.locks p
+    → HasRoom level.plan.tiles room.reports room.candidates → Waiting level table (Some (seated d p room))
+waiting_of level table d p room fd fp has = record { worker = seated d p room; here = refl; ready = (fp.0, fd.0, fd.1, fd.2, fp.1, has) }
+
+or_else : Worker → Option Worker → Worker
+or_else w None = w
+or_else w (Some v) = v
+
+pub paired_of : (locks : List (LockId PlanSeen)) (table : TableId) (tells : Bool) (rule : ℕ → Bool) (tiles : ℕ) (seat : Option Worker) (w : Worker) → Home locks table tells rule tiles seat → seat ≡ Some w
+    → IsPaired locks table tells rule tiles w.drawer w.pass
+unfolding or_else
+paired_of locks table tells rule tiles seat w h is =
+    let same : h.worker ≡ w = ap (or_else w) (sym h.here ∙ is) in
+    subst (λ (v : Worker). IsPaired locks table tells rule tiles v.drawer v.pass) same (record { mine = h.done.1; same = h.done.0; last = h.done.2; did = h.done.3 })
+
+-- the passes of a new level were never used
+fresh_locks : (number : ℕ) (locks : List (LockId PlanSeen)) → locks_of (fresh_row {E = Posting} locks number) ≡ locks
+fresh_locks number [] = refl
+fresh_locks number (l ∷ ls) = ap (λ xs. l ∷ xs) (fresh_locks number ls)
+
+fresh_own : (number : ℕ) (locks : List (LockId PlanSeen)) → own_of (fresh_row {E = Posting} locks number) ≡ []
+fresh_own number [] = refl
+fresh_own number (l ∷ ls) = refl
+
+pub fresh_passes_are : (locks : List (LockId PlanSeen)) (count : ℕ) → AllByRecursion (IsFreshPass locks) (fresh_rows locks count)
+fresh_passes_are locks count = go (range_with_len 0 count)
+  where
+    go : (ns : List ℕ) → AllByRecursion (IsFreshPass locks) (map (fresh_row {E = Posting} locks) ns)
+    go [] = tt
+    go (n ∷ ns) = ((fresh_locks n locks, fresh_own n locks), go ns)

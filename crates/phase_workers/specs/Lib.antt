@@ -1,0 +1,4 @@
+pub mod Gates
+pub mod Crews
+pub mod Marked
+pub mod Seen

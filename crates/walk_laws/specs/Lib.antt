@@ -1,0 +1,3 @@
+pub mod HeavyStrings
+pub mod Standing
+pub mod LastLevel

@@ -1,0 +1,4 @@
+pub mod Tests
+pub mod Eval
+pub mod Gen
+pub mod Run

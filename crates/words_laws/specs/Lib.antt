@@ -1,0 +1,4 @@
+pub mod Options
+pub mod EvalWords
+pub mod GenWords
+pub mod RunWords
