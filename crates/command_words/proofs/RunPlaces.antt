@@ -1,9 +1,9 @@
 -- The words of `run` from the places of its options on.
-use Rattle.std.proofs.Common.{◌≡◌, ℕ, Bool, true, List, Option, Some, None, sym, ◌∙◌, ap}
-use Rattle.std.specs.Prelude.{◌&&◌, codes}
+use Rattle.std.proofs.Common.{◌≡◌, ℕ, Bool, true, List, None, sym, ◌∙◌, ap}
+use Rattle.std.specs.Prelude.{codes}
 use Rattle.std.specs.Bool.{if◌then◌else◌}
 use Rattle.std.proofs.lemmas.Bool.{and_from}
-use Rattle.command_words.specs.RunSettings.{RunSettings, stands, behind, run_from, run_words}
+use Rattle.command_words.specs.RunSettings.{stands, behind, run_from, run_words}
 
 same_places : (words : List (List ℕ)) (a a' v v' n n' : ℕ) → a ≡ a' → v ≡ v' → n ≡ n' → run_from words a v n ≡ run_from words a' v' n'
 same_places words a a' v v' n n' e f g = ap (λ x. run_from words x v n) e ∙ ap (λ x. run_from words a' x n) f ∙ ap (λ x. run_from words a' v' x) g
