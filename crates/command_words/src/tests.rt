@@ -19,9 +19,41 @@ const SHORT: &str = "000102030405060708090a0B0c0D0e0F101112131415161718191A1b1C1
 
 type Words = &'static [&'static str];
 
-// Words of `run` for the files f0 and f1, with the threshold, the cap and the seed that they give.
-const RUNS: [(Words, u64, u32, [u8; 32]); 5] = [
-    (&["run", "--threshold", "2", "f0", "f1"], 2, 4096, [0; 32]),
+// Words of `run` for the files f0 and f1, with the threshold, the uploaders, the cap and the seed that they give.
+const RUNS: [(Words, u64, u32, u32, [u8; 32]); 7] = [
+    (
+        &["run", "--threshold", "2", "f0", "f1"],
+        2,
+        4,
+        4096,
+        [0; 32],
+    ),
+    (
+        &["run", "--threshold", "2", "--uploaders", "1", "f0", "f1"],
+        2,
+        1,
+        4096,
+        [0; 32],
+    ),
+    (
+        &[
+            "run",
+            "--threshold",
+            "2",
+            "--uploaders",
+            "64",
+            "--cap",
+            "7",
+            "--verify",
+            DIGITS,
+            "f0",
+            "f1",
+        ],
+        2,
+        64,
+        7,
+        COUNTED,
+    ),
     (
         &[
             "run",
@@ -35,18 +67,21 @@ const RUNS: [(Words, u64, u32, [u8; 32]); 5] = [
             "f1",
         ],
         2,
+        4,
         7,
         COUNTED,
     ),
     (
         &["run", "--threshold", "1", "--cap", "2", "f0", "f1"],
         1,
+        4,
         2,
         [0; 32],
     ),
     (
         &["run", "--threshold", "02", "--cap", "65536", "f0", "f1"],
         2,
+        4,
         65536,
         [0; 32],
     ),
@@ -61,12 +96,13 @@ const RUNS: [(Words, u64, u32, [u8; 32]); 5] = [
             "f1",
         ],
         18446744069414584320,
+        4,
         4096,
         COUNTED,
     ),
 ];
 
-const REFUSED_RUNS: [Words; 19] = [
+const REFUSED_RUNS: [Words; 22] = [
     &[],
     &["run"],
     &["run", "f0", "f1"],
@@ -79,6 +115,19 @@ const REFUSED_RUNS: [Words; 19] = [
     &["run", "--threshold", "2", "f0"],
     &["run", "--threshold", "2", "-f", "f1"],
     &["run", "--threshold", "2", "f0", ""],
+    &["run", "--threshold", "2", "--uploaders", "0", "f0", "f1"],
+    &["run", "--threshold", "2", "--uploaders", "65", "f0", "f1"],
+    &[
+        "run",
+        "--threshold",
+        "2",
+        "--cap",
+        "5",
+        "--uploaders",
+        "4",
+        "f0",
+        "f1",
+    ],
     &["run", "--threshold", "2", "--cap", "1", "f0", "f1"],
     &["run", "--threshold", "2", "--cap", "65537", "f0", "f1"],
     &["run", "--cap", "5", "--threshold", "2", "f0", "f1"],
@@ -118,11 +167,12 @@ fn words_of(alloc: Global, list: &[&str]) -> Result<Vec<String>, AllocError> {
 }
 
 // Whether `run` of these words is asked for with these values and the files f0 and f1.
-fn is_run(words: &[String], threshold: u64, cap: u32, verify: [u8; 32]) -> bool {
+fn is_run(words: &[String], threshold: u64, uploaders: u32, cap: u32, verify: [u8; 32]) -> bool {
     let Some(asked) = read_run(words) else {
         return false;
     };
     asked.threshold == threshold
+        && asked.uploaders == uploaders
         && asked.cap == cap
         && asked.verify == Seed(verify)
         && asked.zero == "f0"
@@ -162,11 +212,11 @@ fn reads_zeros(alloc: Global, count: usize) -> Result<bool, AllocError> {
 
 #[test]
 fn run_by_its_words(rt: HostRuntime) -> Result<(), AllocError> {
-    for (list, threshold, cap, verify) in RUNS {
+    for (list, threshold, uploaders, cap, verify) in RUNS {
         let words = words_of(rt.alloc(), list)?;
         assert!(rt;
-            is_run(&words, threshold, cap, verify),
-            "threshold {threshold} cap {cap}"
+            is_run(&words, threshold, uploaders, cap, verify),
+            "threshold {threshold} uploaders {uploaders} cap {cap}"
         );
         assert!(rt; is_command(&words, "run"));
         assert!(rt; !is_command(&words, "gen"));

@@ -6,5 +6,7 @@ use Rattle.file_run.specs.declared.rules.RunRules.{RunRules}
 pub record IsInRange (rules : RunRules) : Type 0 where
   pub some_threshold : 1 ≤ rules.threshold
   pub small_threshold : rules.threshold < modulus
+  pub some_uploaders : 1 ≤ rules.uploaders
+  pub few_uploaders : rules.uploaders ≤ 64
   pub some_cap : 2 ≤ rules.cap
   pub small_cap : rules.cap ≤ 65536

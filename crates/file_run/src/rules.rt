@@ -16,6 +16,8 @@ use seed_expand::Seed;
 pub struct RunRules {
     /// The least number of reports that makes a string frequent: 1 to the field's modulus less 1.
     pub threshold: u64,
+    /// How many upload each side's reports at once: 1 to 64.
+    pub uploaders: u32,
     /// The most candidates of a level: 2 to 65536.
     pub cap: u32,
     /// The seed of the check's coins.

@@ -53,7 +53,7 @@ pub fn run_files<R: Threads + Wait + Sync, H: Shelf, L: Link, G: Gate>(
         alloc,
         zeros.shares.into_vec(),
         ones.shares.into_vec(),
-        4,
+        rules.uploaders,
         &settings,
         link,
         gate,

@@ -111,6 +111,7 @@ fn run_command<R: Threads + Wait + Sync, H: Shelf, K: Sink, E: Sink, L: Link, G:
     };
     let rules = RunRules {
         threshold: asked.threshold,
+        uploaders: asked.uploaders,
         cap: asked.cap,
         verify: asked.verify,
     };
@@ -123,13 +124,13 @@ fn run_command<R: Threads + Wait + Sync, H: Shelf, K: Sink, E: Sink, L: Link, G:
 /// The program: the words behind its name, a shelf for its files, sinks for its output and its lines, and the link and the gate
 /// that a walk uses. The first word is the command: `eval`, `gen` or `run`; every other is usage.
 ///
-/// `run --threshold N [--cap N] [--verify SEED] FILE0 FILE1` reads side 0's share file whole, then side 1's, and walks the
-/// reports that both hold without clash over the link: out gets the frequent strings with their counts, ascending, and err a line
-/// for each malformed record and one for the end of the walk. The statuses of `run`, in the order of their causes: 2, the words
-/// give no settings; 3, a share file is not there, too long, with a wrong header or cut, side 1's only where side 0's is whole;
-/// 4, the widths differ; 5, a level has more candidates than the cap; 9, what a side received is not the expected message, or the
-/// two sides' sums differ; 0, the answer is written whole; 6, 7 and 10, the count of faults of the shelf, of the link, or of out
-/// or err rose; 8, want of memory. The statuses of `eval` and `gen` are those of `eval_file` and `gen_files`.
+/// `run --threshold N [--uploaders N] [--cap N] [--verify SEED] FILE0 FILE1` reads side 0's share file whole, then side 1's, and
+/// walks the reports that both hold without clash over the link: out gets the frequent strings with their counts, ascending, and
+/// err a line for each malformed record and one for the end of the walk. The statuses of `run`, in the order of their causes: 2,
+/// the words give no settings; 3, a share file is not there, too long, with a wrong header or cut, side 1's only where side 0's
+/// is whole; 4, the widths differ; 5, a level has more candidates than the cap; 9, what a side received is not the expected
+/// message, or the two sides' sums differ; 0, the answer is written whole; 6, 7 and 10, the count of faults of the shelf, of the
+/// link, or of out or err rose; 8, want of memory. The statuses of `eval` and `gen` are those of `eval_file` and `gen_files`.
 ///
 /// The promise is `Keeps`, between what the shelf, the sinks and the link told before and after. How a walk ends is told by what
 /// both sides received in the call: the status, out, err and the shelf are those of that (`heard`). Out gets its text before err

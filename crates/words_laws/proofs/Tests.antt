@@ -1,5 +1,5 @@
 -- What the tests of words tell.
-use Rattle.std.proofs.Common.{◌≡◌, ◌≢◌, ℕ, Bool, true, false, not, nat_eq, List, [], ◌∷◌, length, Option, Some, None, refl, ◌∙◌, ap, arith}
+use Rattle.std.proofs.Common.{◌≡◌, ◌≢◌, ℕ, Bool, true, false, not, nat_eq, List, [], ◌∷◌, length, Option, Some, None, refl, sym, ◌∙◌, ap, arith}
 use Rattle.std.specs.Prelude.{◌&&◌, if◌then◌else◌}
 use Rattle.std.specs.Str.{bytes_eq}
 use Rattle.std.proofs.lemmas.Slice.Eq.{bytes_eq-Decides}
@@ -66,3 +66,15 @@ some_same e = cc
 pub no_value : {A : Type 0} (o : Option A) (v : A) → o ≡ None → o ≡ Some v → ⊥
 no_value None v e f = absurd cc
 no_value (Some w) v e f = absurd cc
+
+-- a name is no word that begins with a dash
+pub no_option : (word : List ℕ) → IsName word → (rest : List ℕ) → bytes_eq word (45 ∷ rest) ≡ false
+no_option word h rest = at (bytes_eq word (45 ∷ rest)) refl
+  where
+    first : List ℕ → ℕ
+    first [] = 0
+    first (c ∷ cs) = c
+
+    at : (b : Bool) → bytes_eq word (45 ∷ rest) ≡ b → b ≡ false
+    at true e = absurd (h.no_dash (ap first (sym h.stand ∙ same_word word (45 ∷ rest) e)))
+    at false e = refl

@@ -16,8 +16,9 @@ pub fn gen_words_are_asked()
     ensures words { GenLaw }
 {}
 
-/// Words give the settings of `run` exactly where they are the command, the threshold, the cap and the check's seed where
-/// they are given, and two names, in this order; each value is read from its word, or is the one that stands without it.
+/// Words give the settings of `run` exactly where they are the command, the threshold, the uploaders, the cap and the check's
+/// seed where they are given, and two names, in this order; each value is read from its word, or is the one that stands
+/// without it.
 pub fn run_words_are_asked()
     ensures words { RunLaw }
 {}

@@ -15,7 +15,7 @@ use Rattle.poplar_top.proofs.top.run_command.Goals as goal
 pub returns-in-Ok : goal.returns-in-Ok
 returns-in-Ok g c =
     let asked = c.in-Some.asked in
-    let settings : RunSettings = record { threshold = asked.threshold; cap = asked.cap; verify = asked.verify; zero = asked.zero.now; one = asked.one.now } in
+    let settings : RunSettings = record { threshold = asked.threshold; uploaders = asked.uploaders; cap = asked.cap; verify = asked.verify; zero = asked.zero.now; one = asked.one.now } in
     let before = outside g.H.Shelf g.K.Sink g.E.Sink g.L.Link c.args.shelf.now c.args.out.now c.args.err.now c.args.link.now in
     let after = outside g.H.Shelf g.K.Sink g.E.Sink g.L.Link c.run_files.new.shelf c.write_texts.new.out c.write_texts.new.err c.run_files.new.link in
     let written = c.in-Ok.texts in
@@ -30,7 +30,7 @@ returns-in-Ok g c =
 pub returns-in-Err : goal.returns-in-Err
 returns-in-Err g c =
     let asked = c.in-Some.asked in
-    let settings : RunSettings = record { threshold = asked.threshold; cap = asked.cap; verify = asked.verify; zero = asked.zero.now; one = asked.one.now } in
+    let settings : RunSettings = record { threshold = asked.threshold; uploaders = asked.uploaders; cap = asked.cap; verify = asked.verify; zero = asked.zero.now; one = asked.one.now } in
     let before = outside g.H.Shelf g.K.Sink g.E.Sink g.L.Link c.args.shelf.now c.args.out.now c.args.err.now c.args.link.now in
     let after = outside g.H.Shelf g.K.Sink g.E.Sink g.L.Link c.run_files.new.shelf c.args.out.now c.tell_stop.new.err c.run_files.new.link in
     let is : c.tell_stop.result ≡ stop_status (run_stop c.in-Err.error) = subst (λ stop. c.tell_stop.result ≡ stop_status stop) c.stop_of_run.ensures.value c.tell_stop.ensures.status in
