@@ -146,7 +146,7 @@ const FILES: [(&str, &str, &str, Expected<'static>, u32); 15] = [
 ];
 
 // Words, what they give, and how many messages are sent.
-const WORDS: [(&[&str], Expected<'static>, u32); 10] = [
+const WORDS: [(&[&str], Expected<'static>, u32); 15] = [
     (
         &["run", "--threshold", "2", "--cap", "4096", "f0", "f1"],
         FOUND,
@@ -174,6 +174,47 @@ const WORDS: [(&[&str], Expected<'static>, u32); 10] = [
         ],
         (0, "1\ta\n1\tb\n1\tc\n", "sealed 3 passed 3 levels 8\n"),
         48,
+    ),
+    (
+        &[
+            "run",
+            "--threshold",
+            "1",
+            "--uploaders",
+            "1",
+            "twice0",
+            "twice1",
+        ],
+        (0, "1\ta\n", "sealed 1 passed 1 levels 8\n"),
+        48,
+    ),
+    (
+        &[
+            "run",
+            "--threshold",
+            "1",
+            "--uploaders",
+            "4",
+            "twice0",
+            "twice1",
+        ],
+        (0, "1\ta\n", "sealed 1 passed 1 levels 8\n"),
+        48,
+    ),
+    (
+        &["run", "--threshold", "2", "--uploaders", "64", "f0", "f1"],
+        FOUND,
+        96,
+    ),
+    (
+        &["run", "--threshold", "2", "--uploaders", "0", "f0", "f1"],
+        USAGE,
+        0,
+    ),
+    (
+        &["run", "--threshold", "2", "--uploaders", "65", "f0", "f1"],
+        USAGE,
+        0,
     ),
     (&["run", "--threshold", "0", "f0", "f1"], USAGE, 0),
     (&["run", "f0", "f1"], USAGE, 0),
