@@ -1,9 +1,10 @@
 //! The sweep: each tile that no worker posted is posted, under the number of workers.
 //! It goes over the tiles in ascending order.
 
-ghost use Rattle.std.specs.Prelude.{◌≡◌};
+ghost use Rattle.std.specs.Prelude.{◌≡◌, ◌<◌};
 ghost use Rattle.tile_claims.specs.Plans.{tiles_of};
 ghost use Rattle.phase_state.specs.Sums.{IsPhasePlan};
+ghost use Rattle.phase_state.specs.Logs.{IsPosted};
 ghost use Rattle.phase_state.specs.Rooms.{HasRoom};
 ghost use Rattle.phase_workers.specs.Crews.{Swept, added_by};
 
@@ -18,6 +19,29 @@ fn added(posted: Posted) -> u32
         Posted::Added => 1,
         Posted::Repeat => 0,
     }
+}
+
+/// Posts the tile under that number, where it is not posted. The part of a tile that is posted is not made again.
+fn post_missing<'a>(
+    finished: &mut Finished<'a>,
+    plan: &PhasePlan<'a>,
+    tile: u32,
+    room: &mut PartRoom,
+    number: u32,
+) -> Posted
+    requires same { finished.old.plan ≡ plan.now }
+    requires plan { IsPhasePlan plan.now }
+    requires tile { tile < tiles_of plan.now.tiles }
+    requires room { HasRoom plan.now.tiles room.old.reports room.old.candidates }
+    ensures plan { finished.new.plan ≡ finished.old.plan }
+    ensures room { HasRoom plan.now.tiles room.new.reports room.new.candidates }
+    ensures log { IsPosted result number tile finished.old.log finished.new.log }
+{
+    if finished.posted(tile) {
+        return Posted::Repeat;
+    }
+    room.fill(plan, tile);
+    finished.post(number, tile, &room.part(plan.kind))
 }
 
 /// Posts each tile that is not posted, under that number, and answers how many these were.
@@ -38,8 +62,7 @@ pub fn sweep<'a>(
     let mut finished = finished;
     let mut swept = 0;
     for tile in 0..tiles {
-        room.fill(plan, tile);
-        swept += added(finished.post(number, tile, &room.part(plan.kind)));
+        swept += added(post_missing(&mut finished, plan, tile, room, number));
     }
     (finished, swept)
 }

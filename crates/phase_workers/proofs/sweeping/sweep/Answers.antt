@@ -6,5 +6,5 @@ pub loop-tile-preserved : goal.loop-tile-preserved
 loop-tile-preserved c = (
   search rules,
   search rules,
-  rw c.added-swept.ensures (swept_more _ _ _ _ _ _ _ c.loop-tile.invariant.2 c.post.ensures.log),
+  rw c.added-swept.ensures (swept_more _ _ _ _ _ _ _ c.loop-tile.invariant.2 c.post_missing.ensures.log),
 )
