@@ -9,7 +9,6 @@ mod phase;
 mod running;
 mod seating;
 mod shared;
-mod site;
 mod sweeping;
 mod worker;
 mod working;

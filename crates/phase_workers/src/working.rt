@@ -16,11 +16,11 @@ ghost use Rattle.phase_workers.specs.Marked.{Ready, IsDone, Waiting, Home};
 
 use crate::asked::{Asked, AtGate};
 use crate::shared::Shared;
-use crate::site::{Site, serve_all};
 use crate::worker::Worker;
 use definitions::Side;
 use level_totals::{Level, LevelPass};
 use phase_state::PartRoom;
+use seats::{Site, serve_all};
 use shelf_io::{Gate, Say};
 use std::sync::Wait;
 use std::thread::Threads;
@@ -134,8 +134,8 @@ fn work<'t, 'a, G: Asked, R: Wait>(
 impl<'t, 'a, G: Asked> Site<Option<Worker<'a>>> for Shared<'t, 'a, G> {
     ghost ready = { λ shared seat. Waiting shared.level.now shared.claims.now.id seat };
 
-    ghost done = { λ shared seat. Home shared.level.now.locks shared.claims.now.id (G.tells shared.gate.now) (G.rule shared.gate.now)
-        shared.claims.now.tiles seat };
+    ghost done = { λ shared old new. Home shared.level.now.locks shared.claims.now.id (G.tells shared.gate.now) (G.rule shared.gate.now)
+        shared.claims.now.tiles new };
 
     fn serve<R: Wait>(&self, rt: &R, seat: &mut Option<Worker<'a>>) {
         let Some(worker) = seat.take() else {

@@ -6,7 +6,6 @@ mod collect;
 mod dealing;
 pub mod laws;
 mod side_collection;
-mod site;
 #[cfg(test)]
 mod tests;
 mod uploader;

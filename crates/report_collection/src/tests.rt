@@ -113,13 +113,13 @@ fn more_uploaders_than_shares(rt: HostRuntime) -> Result<(), AllocError> {
 #[test]
 fn four_uploaders_make_the_batch_of_the_lists(rt: HostRuntime) -> Result<(), AllocError> {
     let alloc = rt.alloc();
-    let zero = shares_of(alloc, 1500, 500, 2)?;
-    let one = shares_of(alloc, 1500, 500, 3)?;
+    let zero = shares_of(alloc, 6000, 2000, 2)?;
+    let one = shares_of(alloc, 6000, 2000, 3)?;
     let batch = collected(&rt, alloc, 4, zero, one)?;
-    let zero = shares_of(alloc, 1500, 500, 2)?;
-    let one = shares_of(alloc, 1500, 500, 3)?;
+    let zero = shares_of(alloc, 6000, 2000, 2)?;
+    let one = shares_of(alloc, 6000, 2000, 3)?;
     let expected = batch_of(alloc, zero, one)?;
-    assert_eq!(rt; batch.len(), 1500);
+    assert_eq!(rt; batch.len(), 6000);
     assert!(rt; batch.ids() == expected.ids());
     assert!(rt; are_equal(batch.shares(Side::Zero), expected.shares(Side::Zero)));
     assert!(rt; are_equal(batch.shares(Side::One), expected.shares(Side::One)));

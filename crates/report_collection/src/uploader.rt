@@ -5,10 +5,10 @@ ghost use Rattle.std.specs.Prelude.{◌≡◌, ◌<◌, length, All, vec_len, ve
 ghost use Rattle.std.specs.List.{AllByRecursion, AllZip};
 ghost use Rattle.report_collection.specs.Uploads.{HasUploaded, Seated, Served};
 
-use crate::site::{Site, serve_all};
 use definitions::Side;
 use idpf_eval::Share;
 use report_intake::{Intake, UploadPass};
+use seats::{Site, serve_all};
 use shelf_io::Gate;
 use std::sync::Wait;
 use std::thread::Threads;

@@ -170,43 +170,16 @@ fn has_replies<R: Wait>(
 fn four_uploads_in_every_order_by_two_passes(rt: HostRuntime) -> Result<(), AllocError> {
     let alloc = rt.alloc();
     let (stored, repeat, clash) = (Reply::Stored, Reply::Repeat, Reply::Clash);
+    let cases = [
+        ([1, 1, 2, 1], [stored, repeat, clash, clash]),
+        ([2, 1, 1, 1], [stored, clash, clash, clash]),
+        ([1, 2, 1, 1], [stored, clash, clash, clash]),
+        ([1, 1, 1, 2], [stored, repeat, repeat, clash]),
+    ];
     for seconds in 0..16 {
-        assert!(rt;
-            has_replies(
-                &rt,
-                alloc,
-                &[1, 1, 2, 1],
-                seconds,
-                &[stored, repeat, clash, clash]
-            )?
-        );
-        assert!(rt;
-            has_replies(
-                &rt,
-                alloc,
-                &[2, 1, 1, 1],
-                seconds,
-                &[stored, clash, clash, clash]
-            )?
-        );
-        assert!(rt;
-            has_replies(
-                &rt,
-                alloc,
-                &[1, 2, 1, 1],
-                seconds,
-                &[stored, clash, clash, clash]
-            )?
-        );
-        assert!(rt;
-            has_replies(
-                &rt,
-                alloc,
-                &[1, 1, 1, 2],
-                seconds,
-                &[stored, repeat, repeat, clash]
-            )?
-        );
+        for (contents, expected) in &cases {
+            assert!(rt; has_replies(&rt, alloc, contents, seconds, expected)?);
+        }
     }
     Ok(())
 }
