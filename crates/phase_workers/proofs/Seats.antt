@@ -4,7 +4,7 @@ use Rattle.std.specs.Prelude.{Option, Some, None}
 use Rattle.std.specs.List.{AllByRecursion, range_with_len}
 use Rattle.atomic_table.specs.Seated.{TableId}
 use Rattle.tile_claims.specs.Drawers.{DrawerSeen}
-use Rattle.turn_lock.specs.Seen.{LockId, PassSeen, fresh_pass}
+use Rattle.turn_lock.specs.Seen.{LockId}
 use Rattle.lock_row.specs.Rows.{locks_of, fresh_row, fresh_rows}
 use Rattle.core_definitions.specs.Phase.{Posting}
 use Rattle.phase_state.specs.declared.phase_plan.PlanSeen.{PlanSeen}

@@ -1,7 +1,6 @@
 -- What a worker knows after one tile more.
 use Rattle.std.proofs.Common.{◌≡◌, ℕ, ◌+◌, ◌<◌, ◌==◌, Bool, true, false, cond, List, [], ◌∷◌, ◌++◌, refl, ap, sym, ◌∙◌, subst, arith}
 use Rattle.std.proofs.lemmas.List.{append-nil, append_assoc, length-append}
-use Rattle.std.proofs.lemmas.List.Sums.{sum_by-append}
 use mathlib.Core.Logic.{dite}
 use mathlib.Core.List.{IsPrefix}
 use native.Mathlib.Decide.{ℕ_discrete}
@@ -12,7 +11,7 @@ use Rattle.phase_state.specs.declared.posting.Posted.TheVariants.{Added, Repeat}
 use Rattle.phase_state.specs.Logs.{posts, posting, tiles_in}
 use Rattle.tile_claims.specs.Lists.{times}
 use Rattle.phase_state.specs.Logs.{IsPosted}
-use Rattle.level_totals.specs.Levels.{HasSeen, IsOwned}
+use Rattle.level_totals.specs.Levels.{IsOwned}
 use Rattle.phase_state.proofs.Marks.{nat_is, nat_is_not, posts_push, times_push}
 use Rattle.phase_state.proofs.Lists.{map_push}
 use Rattle.tile_claims.specs.Lists.{Ascends}

@@ -7,7 +7,7 @@ use Rattle.atomic_table.specs.Seated.{TableId}
 use Rattle.tile_claims.specs.Drawers.{DrawerSeen, all_drawn}
 use Rattle.tile_claims.specs.Lists.{HasEachBelowOnce}
 use Rattle.turn_lock.specs.Logs.{entries_of}
-use Rattle.turn_lock.specs.Places.{NumberedOnce, once_below as numbered_below}
+use Rattle.turn_lock.specs.Places.{NumberedOnce}
 use Rattle.turn_lock.specs.Seen.{LockId}
 use Rattle.level_totals.specs.Levels.{LevelPassSeen, number_of, seen_of, own_of}
 use Rattle.phase_state.specs.declared.phase_plan.PlanSeen.{PlanSeen}
