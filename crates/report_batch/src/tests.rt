@@ -44,6 +44,11 @@ fn shares_of(alloc: Global, pairs: &[(u64, u8)]) -> Result<Vec<Share>, AllocErro
     Ok(shares)
 }
 
+// The batch of such shares. Nothing is told of it, so that the tests stay cheap to prove.
+fn batch_from(alloc: Global, zero: &[(u64, u8)], one: &[(u64, u8)]) -> Result<Batch, AllocError> {
+    batch_of(alloc, shares_of(alloc, zero)?, shares_of(alloc, one)?)
+}
+
 // Whether this share stands at the place.
 fn holds(shares: &[Share], place: usize, share: &Share) -> bool {
     match shares.get(place) {
@@ -57,10 +62,10 @@ fn an_id_with_two_contents_is_left_out(rt: HostRuntime) -> Result<(), AllocError
     let alloc = rt.alloc();
     let twice = [(7, 1), (7, 1), (7, 2), (7, 1), (8, 1)];
     let one = [(8, 5), (7, 5)];
-    let batch = batch_of(alloc, shares_of(alloc, &twice)?, shares_of(alloc, &one)?)?;
+    let batch = batch_from(alloc, &twice, &one)?;
     assert_eq!(rt; batch.ids(), [id_of(8)].as_slice());
     let first = [(7, 2), (7, 1), (7, 1), (7, 1)];
-    let batch = batch_of(alloc, shares_of(alloc, &one)?, shares_of(alloc, &first)?)?;
+    let batch = batch_from(alloc, &one, &first)?;
     assert_eq!(rt; batch.len(), 0);
     Ok(())
 }
@@ -68,9 +73,9 @@ fn an_id_with_two_contents_is_left_out(rt: HostRuntime) -> Result<(), AllocError
 #[test]
 fn repeats_count_once(rt: HostRuntime) -> Result<(), AllocError> {
     let alloc = rt.alloc();
-    let zero = shares_of(alloc, &[(7, 1), (7, 1)])?;
-    let one = shares_of(alloc, &[(7, 5), (7, 5), (7, 5)])?;
-    let batch = batch_of(alloc, zero, one)?;
+    let zero = [(7, 1), (7, 1)];
+    let one = [(7, 5), (7, 5), (7, 5)];
+    let batch = batch_from(alloc, &zero, &one)?;
     assert_eq!(rt; batch.ids(), [id_of(7)].as_slice());
     assert_eq!(rt; batch.len(), 1);
     assert!(rt; holds(batch.shares(Side::Zero), 0, &share_of(alloc, 7, 1)?));
@@ -81,9 +86,9 @@ fn repeats_count_once(rt: HostRuntime) -> Result<(), AllocError> {
 #[test]
 fn ids_ascend_and_stand_on_both_sides(rt: HostRuntime) -> Result<(), AllocError> {
     let alloc = rt.alloc();
-    let zero = shares_of(alloc, &[(300, 1), (2, 2), (9, 3), (1, 4)])?;
-    let one = shares_of(alloc, &[(1, 5), (300, 6), (4, 7), (2, 8)])?;
-    let batch = batch_of(alloc, zero, one)?;
+    let zero = [(300, 1), (2, 2), (9, 3), (1, 4)];
+    let one = [(1, 5), (300, 6), (4, 7), (2, 8)];
+    let batch = batch_from(alloc, &zero, &one)?;
     assert_eq!(rt; batch.ids(), [id_of(1), id_of(2), id_of(300)].as_slice());
     assert!(rt; holds(batch.shares(Side::Zero), 2, &share_of(alloc, 300, 1)?));
     assert!(rt; holds(batch.shares(Side::One), 2, &share_of(alloc, 300, 6)?));
@@ -94,9 +99,9 @@ fn ids_ascend_and_stand_on_both_sides(rt: HostRuntime) -> Result<(), AllocError>
 #[test]
 fn an_empty_side_leaves_nothing(rt: HostRuntime) -> Result<(), AllocError> {
     let alloc = rt.alloc();
-    let batch = batch_of(alloc, shares_of(alloc, &[(1, 1)])?, Vec::new(alloc))?;
+    let batch = batch_from(alloc, &[(1, 1)], &[])?;
     assert_eq!(rt; batch.len(), 0);
-    let batch = batch_of(alloc, Vec::new(alloc), shares_of(alloc, &[(1, 1)])?)?;
+    let batch = batch_from(alloc, &[], &[(1, 1)])?;
     assert_eq!(rt; batch.len(), 0);
     Ok(())
 }
@@ -113,12 +118,17 @@ fn state_of(alloc: Global, pairs: &[(u64, u8)]) -> Result<IntakeState, AllocErro
     Ok(state)
 }
 
+// The batch of two such intakes.
+fn sealed(alloc: Global, zero: &[(u64, u8)], one: &[(u64, u8)]) -> Result<Batch, AllocError> {
+    Batch::of(alloc, state_of(alloc, zero)?, state_of(alloc, one)?)
+}
+
 #[test]
 fn an_id_that_clashed_in_an_intake_is_left_out(rt: HostRuntime) -> Result<(), AllocError> {
     let alloc = rt.alloc();
     let twice = [(7, 1), (7, 1), (7, 2), (8, 1), (7, 1)];
     let one = [(8, 5), (7, 5), (8, 5)];
-    let batch = Batch::of(alloc, state_of(alloc, &twice)?, state_of(alloc, &one)?)?;
+    let batch = sealed(alloc, &twice, &one)?;
     assert_eq!(rt; batch.ids(), [id_of(8)].as_slice());
     assert!(rt; holds(batch.shares(Side::One), 0, &share_of(alloc, 8, 5)?));
     Ok(())
