@@ -8,4 +8,4 @@ mod tests;
 mod trial;
 
 pub use crate::pairs::Pairs;
-pub use crate::trial::{Outline, Way, outline, walked};
+pub use crate::trial::{Outline, Way, outline_of, walked};

@@ -10,6 +10,9 @@ use prefix_bits::Prefix;
 use seed_expand::Seed;
 use std::alloc::{AllocError, Global};
 
+/// The seed of all coins of the shares.
+const MASTER: Seed = Seed([5; 32]);
+
 /// Both sides' shares of some strings.
 #[derive(Drop)]
 pub struct Pairs {
@@ -26,13 +29,12 @@ impl Pairs {
         }
     }
 
-    /// Adds the shares of a string as those of a line.
-    fn add(&mut self, alloc: Global, line: u32, string: [u8; 2]) -> Result<(), AllocError> {
-        let mut master = [0; 32];
-        for (place, byte) in master.iter_mut().enumerate() {
-            *byte = place as u8;
+    /// Adds the shares of a string of 16 bits as those of a line.
+    fn add(&mut self, alloc: Global, line: u32, string: &Prefix) -> Result<(), AllocError> {
+        if string.len() != 16 {
+            return Ok(());
         }
-        let (zero, one) = gen_(alloc, &Seed(master), line, 258, &Prefix::of_bytes(&string))?;
+        let (zero, one) = gen_(alloc, &MASTER, line, 258, string)?;
         self.zero.push(zero)?;
         self.one.push(one)?;
         Ok(())
@@ -41,9 +43,9 @@ impl Pairs {
     /// The shares of `ab`, `ab` and `ac`.
     pub fn three(alloc: Global) -> Result<Pairs, AllocError> {
         let mut pairs = Pairs::new(alloc);
-        pairs.add(alloc, 0, [b'a', b'b'])?;
-        pairs.add(alloc, 1, [b'a', b'b'])?;
-        pairs.add(alloc, 2, [b'a', b'c'])?;
+        pairs.add(alloc, 0, &Prefix::of_bytes(b"ab"))?;
+        pairs.add(alloc, 1, &Prefix::of_bytes(b"ab"))?;
+        pairs.add(alloc, 2, &Prefix::of_bytes(b"ac"))?;
         Ok(pairs)
     }
 
@@ -54,7 +56,7 @@ impl Pairs {
         for line in 0..reports {
             let zeros = u64::from(line + 1).trailing_zeros().min(15);
             let letter = b'a' + zeros as u8;
-            pairs.add(alloc, line, [letter, letter])?;
+            pairs.add(alloc, line, &Prefix::of_bytes(&[letter, letter]))?;
         }
         Ok(pairs)
     }
