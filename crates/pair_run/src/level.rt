@@ -76,10 +76,13 @@ pub fn walk_level<R: Threads + Wait + Sync, K: Link, G: Gate>(
         (level_messages (rules_of settings.now) level (stage_of (picked batch.now live.now) candidates.now))) }
     ensures cause { HasPairCause (K.faults link.old) (K.faults link.new) result }
 {
-    let (opened0, opened1) =
-        open_sums(rt, alloc, link, settings, level, candidates, batch, live, gate)?;
+    let (opened0, opened1) = open_sums(
+        rt, alloc, link, settings, level, candidates, batch, live, gate,
+    )?;
     let passed = check_reports(alloc, link, level, batch, live, &opened0, &opened1)?;
-    let totals = add_totals(rt, alloc, link, settings, level, candidates, batch, &passed, gate)?;
+    let totals = add_totals(
+        rt, alloc, link, settings, level, candidates, batch, &passed, gate,
+    )?;
     Ok(WalkedLevel {
         live: passed,
         totals,

@@ -107,7 +107,23 @@ fn own_sums<R: Threads + Wait + Sync, G: Gate>(
     ensures below1 { IfOk result (λ own. All (λ n. n < modulus) (flat own.1.items)) }
     ensures memory { IfErr result (λ e. e ≡ Memory) }
 {
-    let zero = side_plan(settings, Kind::Sketch, level, candidates, Side::Zero, batch, live);
-    let one = side_plan(settings, Kind::Sketch, level, candidates, Side::One, batch, live);
+    let zero = side_plan(
+        settings,
+        Kind::Sketch,
+        level,
+        candidates,
+        Side::Zero,
+        batch,
+        live,
+    );
+    let one = side_plan(
+        settings,
+        Kind::Sketch,
+        level,
+        candidates,
+        Side::One,
+        batch,
+        live,
+    );
     Ok(both_sums(rt, alloc, &zero, &one, settings.workers, gate)?)
 }

@@ -70,7 +70,9 @@ pub fn add_totals<R: Threads + Wait + Sync, K: Link, G: Gate>(
         (end_of e ≡ None) × SentPart (K.talk link.old) (K.talk link.new) (both_send 3 level totals0 totals1)) }
     ensures cause { HasPairCause (K.faults link.old) (K.faults link.new) result }
 {
-    let (totals0, totals1) = own_totals(rt, alloc, settings, level, candidates, batch, passed, gate)?;
+    let (totals0, totals1) = own_totals(
+        rt, alloc, settings, level, candidates, batch, passed, gate,
+    )?;
     agreed_sums(alloc, link, AddedKind::Totals, level, &totals0, &totals1)
 }
 
@@ -100,7 +102,23 @@ fn own_totals<R: Threads + Wait + Sync, G: Gate>(
     ensures below1 { IfOk result (λ own. All (λ n. n < modulus) own.1.items) }
     ensures memory { IfErr result (λ e. e ≡ Memory) }
 {
-    let zero = side_plan(settings, Kind::Totals, level, candidates, Side::Zero, batch, passed);
-    let one = side_plan(settings, Kind::Totals, level, candidates, Side::One, batch, passed);
+    let zero = side_plan(
+        settings,
+        Kind::Totals,
+        level,
+        candidates,
+        Side::Zero,
+        batch,
+        passed,
+    );
+    let one = side_plan(
+        settings,
+        Kind::Totals,
+        level,
+        candidates,
+        Side::One,
+        batch,
+        passed,
+    );
     Ok(both_totals(rt, alloc, &zero, &one, settings.workers, gate)?)
 }
