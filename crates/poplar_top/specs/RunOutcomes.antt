@@ -53,7 +53,14 @@ unheard_answer (Err e) = run_refused e
 
 -- what the walk is told
 abbrev pub rules_asked : RunSettings → RunRules
-rules_asked settings = record { threshold = settings.threshold; uploaders = settings.uploaders; cap = settings.cap; verify = settings.verify }
+rules_asked settings = record {
+  threshold = settings.threshold;
+  workers = 4;
+  uploaders = settings.uploaders;
+  cap = settings.cap;
+  verify = settings.verify;
+  drill = 0;
+}
 
 abbrev pub files_asked : RunSettings → Files → Result Both RunError
 files_asked settings held = begun settings.zero settings.one held

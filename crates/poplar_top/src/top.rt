@@ -111,9 +111,11 @@ fn run_command<R: Threads + Wait + Sync, H: Shelf, K: Sink, E: Sink, L: Link, G:
     };
     let rules = RunRules {
         threshold: asked.threshold,
+        workers: 4,
         uploaders: asked.uploaders,
         cap: asked.cap,
         verify: asked.verify,
+        drill: 0,
     };
     match run_files(rt, alloc, asked.zero, asked.one, &rules, shelf, link, gate) {
         Ok(texts) => write_texts(out, err, &texts.out, &texts.err),
