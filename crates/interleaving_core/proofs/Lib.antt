@@ -1,0 +1,4 @@
+pub mod Passing
+pub mod Readings
+pub mod Completion
+pub mod Stepping
