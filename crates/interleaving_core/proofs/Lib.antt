@@ -2,3 +2,4 @@ pub mod Passing
 pub mod Readings
 pub mod Completion
 pub mod Stepping
+pub mod Carries

@@ -12,7 +12,7 @@ one-more false x xs ys one e = e
 
 module _ (batch : List Report) (level : ℕ) where
   passed-suc : (k : ℕ) (is : List ℕ) (ss ts : List Sums) (i : ℕ) (s t : Sums) → k < length is → length ss ≡ length is → length ts ≡ length is
-      → i ≡ get_or is k i → s ≡ get_or ss k s → t ≡ get_or ts k t
+      → i ≡ get_or is k 0 → s ≡ get_or ss k s → t ≡ get_or ts k t
       → passed_by batch level (take (suc k) is) (take (suc k) ss) (take (suc k) ts)
       ≡ passed_by batch level (take k is) (take k ss) (take k ts) ++ (if passes_by batch level i s t then i ∷ [] else [])
   passed-suc k [] ss ts i s t p e f g h j = absurd (omega (arith, p))
@@ -27,7 +27,7 @@ module _ (batch : List Report) (level : ℕ) where
 
   -- the places that pass, of one report more
   pub passed-more : (k : ℕ) (is : List ℕ) (ss ts : List Sums) (i : ℕ) (s t : Sums) → k < length is → length ss ≡ length is → length ts ≡ length is
-      → i ≡ get_or is k i → s ≡ get_or ss k s → t ≡ get_or ts k t
+      → i ≡ get_or is k 0 → s ≡ get_or ss k s → t ≡ get_or ts k t
       → passed_by batch level (take (k + 1) is) (take (k + 1) ss) (take (k + 1) ts)
       ≡ passed_by batch level (take k is) (take k ss) (take k ts) ++ (if passes_by batch level i s t then i ∷ [] else [])
   passed-more k is ss ts i s t p e f g h j =

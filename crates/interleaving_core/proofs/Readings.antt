@@ -1,5 +1,5 @@
 -- What a state has added up is what is read off the log in the definitions' words.
-use Rattle.std.proofs.Common.{◌≡◌, ℕ, zero, suc, ◌+◌, Bool, List, [], ◌∷◌, length, map, get_or, refl, sym, ◌∙◌, ap, subst}
+use Rattle.std.proofs.Common.{◌≡◌, ℕ, zero, suc, ◌+◌, Bool, List, [], ◌∷◌, length, map, get_or, refl, sym, ◌∙◌, ap, subst, arith}
 use mathlib.Core.Path.{fun_ext}
 use Rattle.std.specs.Prelude.{if◌then◌else◌}
 use Rattle.std.proofs.lemmas.List.{length-map}
@@ -20,11 +20,22 @@ use Rattle.phase_state.specs.Sums.{cut, share_at, live_shares, nodes_of, coins_o
 use Rattle.phase_state.specs.Logs.{tiles_in}
 use Rattle.half_events.specs.Stages.{IsPlanOf, kind_of}
 use Rattle.half_events.proofs.Bridges.{share-held}
-use Rattle.interleaving_core.specs.Phases.{sums_in, totals_in}
+use Rattle.half_events.specs.declared.halves.Half.{Half}
+use Rattle.half_events.specs.Halves.{IsHalf, half_seen}
+use Rattle.half_events.specs.Stages.{StageSeen, phase_at}
+use Rattle.interleaving_core.specs.declared.phases.Found.TheVariants.{Live, Added}
+use Rattle.interleaving_core.specs.declared.sides.Sides.{Sides}
+use Rattle.interleaving_core.specs.Sides.{AreSides}
+use Rattle.interleaving_core.specs.Phases.{sums_in, totals_in, IsFound}
+use Rattle.interleaving_core.proofs.Passing.{paired-length}
+use Rattle.std.specs.Global.{Vec}
+use Rattle.definitions.specs.declared.Side.TheVariants.{Zero, One}
+use Rattle.walk_definitions.specs.Heard.{paired}
+use Rattle.core_definitions.specs.System.{passed_by}
 
 -- ---- sums over what is looked up
 
-module _ {R S C : Type 0} (f : S → R) where
+module _ {R S : Type 0} (f : S → R) where
   abbrev found : Placed S → Placed R
   found r = record { place = r.place; item = f r.item }
 
@@ -39,12 +50,12 @@ module _ {R S C : Type 0} (f : S → R) where
       ∙ ap (λ n. add (F (record { place = at; item = f x })) n) (numbered-total F (at + 1) xs)
       ∙ sym (total_by-cons (λ (r : Placed S). F (found r)) _ _)
 
-  pub sums-found : (plan : TilePlan) (coins : R → ℕ → ℕ) (nodes : R → C → Node) (live : List S) (candidates : List C) (ks : List ℕ)
+  pub sums-found : {C : Type 0} (plan : TilePlan) (coins : R → ℕ → ℕ) (nodes : R → C → Node) (live : List S) (candidates : List C) (ks : List ℕ)
       → sums_of_tiles plan coins nodes (map f live) candidates ks ≡ sums_of_tiles plan (λ s. coins (f s)) (λ s. nodes (f s)) live candidates ks
   unfolding sums_of_tiles sums_at
   sums-found plan coins nodes live candidates ks = numbered-map _ 0 live
 
-  pub totals-found : (plan : TilePlan) (nodes : R → C → Node) (live : List S) (candidates : List C) (ks : List ℕ)
+  pub totals-found : {C : Type 0} (plan : TilePlan) (nodes : R → C → Node) (live : List S) (candidates : List C) (ks : List ℕ)
       → totals_of_tiles plan nodes (map f live) candidates ks ≡ totals_of_tiles plan (λ s. nodes (f s)) live candidates ks
   unfolding totals_of_tiles total_at
   totals-found plan nodes live candidates ks =
@@ -128,3 +139,41 @@ module _ (core : CoreSettings) (p : Phase) (side : Side) (plan : PlanSeen) (is :
 
   pub totals-long : length (totals_of plan (tiles_in log)) ≡ length p.candidates
   totals-long = totals-length (cut plan.tiles) (nodes_of plan.side) (live_shares plan) plan.candidates (in_totals plan.kind (tiles_in log)) ∙ ap length is.candidates_are
+
+-- ---- a side
+
+module _ (core : CoreSettings) (p : Phase) (side : Side) (h : Half) (is : IsHalf core p side h) where
+  pub half-sums : (ss : List Sums) → p.kind ≡ phase.sketching → ss ≡ sums_of h.state.plan (tiles_in h.state.log) → ss ≡ sums_in (half_seen core p side h).values
+  half-sums ss kind e = e ∙ ap (λ plan. sums_of plan (tiles_in h.state.log)) is.same ∙ sums-read core p side h.plan is.plan h.state.log kind
+
+  pub half-totals : (ns : List ℕ) → p.kind ≡ phase.totalling → ns ≡ totals_of h.state.plan (tiles_in h.state.log) → ns ≡ totals_in (half_seen core p side h).values
+  half-totals ns kind e = e ∙ ap (λ plan. totals_of plan (tiles_in h.state.log)) is.same ∙ totals-read core p side h.plan is.plan h.state.log kind
+
+  pub sums-count : (ss : List Sums) → ss ≡ sums_of h.state.plan (tiles_in h.state.log) → length ss ≡ length p.live
+  sums-count ss e = ap length (e ∙ ap (λ plan. sums_of plan (tiles_in h.state.log)) is.same) ∙ sums-long core p side h.plan is.plan h.state.log
+
+  pub totals-count : (ns : List ℕ) → ns ≡ totals_of h.state.plan (tiles_in h.state.log) → length ns ≡ length p.candidates
+  totals-count ns e = ap length (e ∙ ap (λ plan. totals_of plan (tiles_in h.state.log)) is.same) ∙ totals-long core p side h.plan is.plan h.state.log
+
+-- ---- both sides
+
+module _ (core : CoreSettings) (s : StageSeen) (sides : Sides) (is : AreSides core s sides) where
+  pub live-found : (ss ts : List Sums) (live : Vec ℕ) → s.kind ≡ phase.sketching → ss ≡ sums_of sides.zero.state.plan (tiles_in sides.zero.state.log)
+      → ts ≡ sums_of sides.one.state.plan (tiles_in sides.one.state.log) → live.items ≡ passed_by s.batch (suc s.past) s.live ss ts → IsFound core s sides (Live live)
+  live-found ss ts live kind e f found = (
+    kind,
+    found
+    ∙ ap (λ x. passed_by s.batch (suc s.past) s.live x ts) (half-sums core (phase_at s) Zero sides.zero is.zero ss kind e)
+    ∙ ap (λ x. passed_by s.batch (suc s.past) s.live (sums_in (half_seen core (phase_at s) Zero sides.zero).values) x) (half-sums core (phase_at s) One sides.one is.one ts kind f),
+  )
+
+  pub totals-found-both : (ms ns : List ℕ) (totals : Vec ℕ) → s.kind ≡ phase.totalling → ms ≡ totals_of sides.zero.state.plan (tiles_in sides.zero.state.log)
+      → ns ≡ totals_of sides.one.state.plan (tiles_in sides.one.state.log) → totals.items ≡ paired add ms ns → IsFound core s sides (Added totals)
+  totals-found-both ms ns totals kind e f found =
+      let m = totals-count core (phase_at s) Zero sides.zero is.zero ms e in
+      let n = totals-count core (phase_at s) One sides.one is.one ns f in
+      (kind,
+      ap length found ∙ paired-length add ms ns (m ∙ sym n) ∙ m,
+      found
+      ∙ ap (λ x. paired add x ns) (half-totals core (phase_at s) Zero sides.zero is.zero ms kind e)
+      ∙ ap (λ x. paired add (totals_in (half_seen core (phase_at s) Zero sides.zero).values) x) (half-totals core (phase_at s) One sides.one is.one ns kind f))
