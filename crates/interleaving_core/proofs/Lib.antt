@@ -3,3 +3,4 @@ pub mod Readings
 pub mod Completion
 pub mod Stepping
 pub mod Carries
+pub mod Pruning

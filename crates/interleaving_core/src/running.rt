@@ -81,11 +81,13 @@ fn prune(
             walked,
             Outcome::Done(heavy),
         )))),
-        Err(PruneError::Cap { level, wanted }) => Ok(Turn::Last(System::of(Standing::Ended(
-            walked,
-            Outcome::Capped { level, wanted },
-        )))),
-        Err(PruneError::Memory) => Err(AllocError),
+        Err(refused) => match refused {
+            PruneError::Cap { level, wanted } => Ok(Turn::Last(System::of(Standing::Ended(
+                walked,
+                Outcome::Capped { level, wanted },
+            )))),
+            PruneError::Memory => Err(AllocError),
+        },
     }
 }
 
