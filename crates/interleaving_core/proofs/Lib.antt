@@ -4,3 +4,4 @@ pub mod Completion
 pub mod Stepping
 pub mod Carries
 pub mod Pruning
+pub mod Fits
