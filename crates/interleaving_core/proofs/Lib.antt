@@ -5,3 +5,6 @@ pub mod Stepping
 pub mod Carries
 pub mod Pruning
 pub mod Fits
+pub mod Walked
+pub mod Collected
+pub mod Following
