@@ -47,27 +47,34 @@ run-ended core (event ∷ events) w end = ap (run core events) (after-ended core
 module _ (core : CoreSettings) (b : List Report) (past : ℕ) (kind : phase.Kind) (live : List ℕ) (candidates : List (List Bool)) (recorded : List (List ℕ)) where
   abbrev walk_of : Half → Half → Walking
   walk_of h0 h1 = record { batch = b; past = past; kind = kind; live = live; candidates = candidates; half0 = h0; half1 = h1; recorded = recorded }
+
   module _ (h0 h1 g0 g1 : Half) (e0 : h0.cache ≡ g0.cache) (e1 : h1.cache ≡ g1.cache) (ns : List ℕ) where
     abbrev heavy : List Heavy
     heavy = survivors core.walk.threshold candidates ns
+
     abbrev further : List CacheEntry → List CacheEntry → System
     further c0 c1 = walking (begun core b (suc past) phase.sketching live (children heavy) c0 c1 (recorded ++ ns ∷ []))
+
     same-further : further h0.cache h1.cache ≡ further g0.cache g1.cache
     same-further = ap (λ c. further c h1.cache) e0 ∙ ap (further g0.cache) e1
+
     abbrev ended_at : Half → Half → End → System
     ended_at k0 k1 end = ended (record (walk_of k0 k1) { recorded = recorded ++ ns ∷ [] }) end
+
     pub totals-seen : (events : List system.Event)
         → seen (run core events (carried_totals core (walk_of h0 h1) ns)) ≡ seen (run core events (carried_totals core (walk_of g0 g1) ns))
     totals-seen events = at (nat_eq (suc past) core.walk.bits) (goes_on core.walk.cap heavy)
       where
         ends : (end : End) → seen (run core events (ended_at h0 h1 end)) ≡ seen (run core events (ended_at g0 g1 end))
         ends end = ap seen (run-ended core events _ end) ∙ sym (ap seen (run-ended core events (record (walk_of g0 g1) { recorded = recorded ++ ns ∷ [] }) end))
+
         at : (last more : Bool)
             → seen (run core events (if last then ended_at h0 h1 (done (suc past) (length live) heavy) else if more then further h0.cache h1.cache else ended_at h0 h1 (stopped (suc past) (length live) heavy)))
             ≡ seen (run core events (if last then ended_at g0 g1 (done (suc past) (length live) heavy) else if more then further g0.cache g1.cache else ended_at g0 g1 (stopped (suc past) (length live) heavy)))
         at true more = ends (done (suc past) (length live) heavy)
         at false true = ap (λ x. seen (run core events x)) same-further
         at false false = ends (stopped (suc past) (length live) heavy)
+
     ended-kept : (end : End) → EndKept core (record (walk_of h0 h1) { recorded = recorded ++ ns ∷ [] }) end
         → EndKept core (record (walk_of g0 g1) { recorded = recorded ++ ns ∷ [] }) end
     ended-kept end h = record {
@@ -78,6 +85,7 @@ module _ (core : CoreSettings) (b : List Report) (past : ℕ) (kind : phase.Kind
       last = h.last;
       answer = h.answer;
     }
+
     pub totals-kept : IsCarriedOn core (carried_totals core (walk_of h0 h1) ns) → IsCarriedOn core (carried_totals core (walk_of g0 g1) ns)
     totals-kept = at (nat_eq (suc past) core.walk.bits) (goes_on core.walk.cap heavy)
       where
@@ -211,7 +219,7 @@ module _ (core : CoreSettings) (s : StageSeen) where
   phase-carried most_bits usable first sides cache0 cache1 old new false c kept e f is ran found g h = absurd (false≢true is)
   phase-carried most_bits usable first sides cache0 cache1 old new true c kept e f is ran found g h =
       let to : carried_to core s c.found sides.zero.cache.items sides.one.cache.items ≡ carried_to core s c.found c.zero.items c.one.items =
-          ap (λ v. carried_to core s c.found v.items sides.one.cache.items) (sym g) ∙ ap (λ v. carried_to core s c.found c.zero.items v.items) (sym h) in
+      ap (λ v. carried_to core s c.found v.items sides.one.cache.items) (sym g) ∙ ap (λ v. carried_to core s c.found c.zero.items v.items) (sym h) in
       record {
         seen_as = ap (λ w. seen (run core (events_of old) (walking w))) (sym (begun-is first cache0 cache1 e f))
             ∙ ap seen ran.3

@@ -36,11 +36,11 @@ module _ (core : CoreSettings) (p : Phase) (side : Side) (h : Half) (is : IsHalf
   unfolding first_unposted
   all-there none k = elim (cases_lt k (plans.tiles_of h.state.plan.tiles)) [
     | inl low ↦
-      let some = unposted-none h.state.log 0 (tiles (phase.plan_of core p)) none k (omega arith) (omega (arith, low, count-is)) in
-      posts-is k h.state.log ∙ omega (arith, some, is.kept.once k) ∙ sym (below_is k (plans.tiles_of h.state.plan.tiles) low)
+        let some = unposted-none h.state.log 0 (tiles (phase.plan_of core p)) none k (omega arith) (omega (arith, low, count-is)) in
+        posts-is k h.state.log ∙ omega (arith, some, is.kept.once k) ∙ sym (below_is k (plans.tiles_of h.state.plan.tiles) low)
     | inr high ↦
-      posts-is k h.state.log ∙ zero_of (posted_count k h.state.log) (λ some. let l = is.kept.posted_low k some in omega (arith, l.0, high, count-is))
-      ∙ sym (below_not k (plans.tiles_of h.state.plan.tiles) high)
+        posts-is k h.state.log ∙ zero_of (posted_count k h.state.log) (λ some. let l = is.kept.posted_low k some in omega (arith, l.0, high, count-is))
+        ∙ sym (below_not k (plans.tiles_of h.state.plan.tiles) high)
   ]
     where
       zero_of : (n : ℕ) → (1 ≤ n → ⊥) → n ≡ 0

@@ -27,14 +27,19 @@ module _ (core : CoreSettings) (b : List Report) (f : Frontier) (live : List ℕ
     (some : 1 ≤ f.level) (bits : f.bits ≡ core.walk.bits) (cap : f.cap ≡ core.walk.cap) where
   abbrev heavy : List Heavy
   heavy = survivors core.walk.threshold f.candidates ns
+
   abbrev before : Walking
   before = begun core b (f.level - 1) phase.totalling live f.candidates c0 c1 recorded
+
   abbrev ended_with : End → System
   ended_with end = ended (record before { recorded = recorded ++ ns ∷ [] }) end
+
   abbrev next : List (List Bool) → System
   next qs = walking (begun core b (suc (f.level - 1)) phase.sketching live qs c0 c1 (recorded ++ ns ∷ []))
+
   level-is : suc (f.level - 1) ≡ f.level
   level-is = omega (arith, some)
+
   -- what is seen of the walk's end
   abbrev pub ends_seen : Option Ending → SystemSeen
   ends_seen o = record {
@@ -46,22 +51,27 @@ module _ (core : CoreSettings) (b : List Report) (f : Frontier) (live : List ℕ
     totals = recorded ++ ns ∷ [];
     outcome = o;
   }
+
   seen-end : (events : List system.Event) (end : End) → seen (run core events (ended_with end)) ≡ ends_seen (systems.ending_at end)
   seen-end events end =
       ap seen (run-ended core events (record before { recorded = recorded ++ ns ∷ [] }) end)
       ∙ ap (λ l. record { batch = Some b; phase = None; level = l; live = live; candidates = f.candidates; totals = recorded ++ ns ∷ []; outcome = systems.ending_at end }) level-is
+
   abbrev by_tests : Bool → Bool → System
   by_tests last more =
       if last then ended_with (done (suc (f.level - 1)) (length live) heavy) else if more then next (children heavy)
       else ended_with (stopped (suc (f.level - 1)) (length live) heavy)
+
   abbrev pruned_by : Bool → Bool → Outcome
   pruned_by last more = if last then answered heavy else if more then further (following f heavy) else halted f heavy
+
   tests-are : carried_totals core before ns ≡ by_tests (f.level == f.bits) (goes_on f.cap heavy)
   unfolding system.fresh_half
   tests-are =
       ap (λ l. by_tests (nat_eq l core.walk.bits) (goes_on core.walk.cap heavy)) level-is
       ∙ ap (λ n. by_tests (nat_eq f.level n) (goes_on core.walk.cap heavy)) (sym bits)
       ∙ ap (λ n. by_tests (f.level == f.bits) (goes_on n heavy)) (sym cap)
+
   pub to-next : (g : Frontier) → further g ≡ pruned f ns core.walk.threshold
       → (carried_totals core before ns ≡ next g.candidates) × (g.bits ≡ f.bits) × (g.cap ≡ f.cap) × (g.level ≡ f.level + 1)
   to-next g e = at (f.level == f.bits) (goes_on f.cap heavy) heavy refl tests-are e
@@ -76,6 +86,7 @@ module _ (core : CoreSettings) (b : List Report) (f : Frontier) (live : List ℕ
           let none : further g ≡ answered [] = p ∙ ap (halted f) (sym i) in let impossible : ⊥ = cc in absurd impossible
       at false false (h ∷ hs) i t p =
           let none : further g ≡ halted f (h ∷ hs) = p ∙ ap (halted f) (sym i) in let impossible : ⊥ = cc in absurd impossible
+
   pub to-answer : (found : List Heavy) → answered found ≡ pruned f ns core.walk.threshold → (events : List system.Event)
       → seen (run core events (carried_totals core before ns)) ≡ ends_seen (Some (systems.answered found))
   to-answer found e events = ap (λ s. seen (run core events s)) tests-are ∙ at (f.level == f.bits) (goes_on f.cap heavy) heavy refl e
@@ -93,6 +104,7 @@ module _ (core : CoreSettings) (b : List Report) (f : Frontier) (live : List ℕ
           ∙ seen-end events (done (suc (f.level - 1)) (length live) []) ∙ ap (λ x. ends_seen (Some (systems.answered x))) (sym same)
       at false false (h ∷ hs) i p =
           let halts : answered found ≡ halted f (h ∷ hs) = p ∙ ap (halted f) (sym i) in let impossible : ⊥ = cc in absurd impossible
+
   pub to-cap : (level wanted : ℕ) → pruned f ns core.walk.threshold ≡ too_many level wanted → (events : List system.Event)
       → seen (run core events (carried_totals core before ns)) ≡ ends_seen (Some (systems.too_many level wanted))
   to-cap level wanted e events = ap (λ s. seen (run core events s)) tests-are ∙ at (f.level == f.bits) (goes_on f.cap heavy) heavy refl e
@@ -138,17 +150,19 @@ module _ (core : CoreSettings) (w : Walker) (ns : List ℕ) (totals : Vec (List 
       let same : carried_totals core (begun_of core w) ns ≡ walking (begun_of core (next_level g)) =
       ap of_kind kind ∙ n.0
       ∙ ap (λ p. walking (begun core w.walked.batch p phase.sketching w.walked.live.items g.candidates w.zero.items w.one.items (w.walked.totals.items ++ ns ∷ []))) past
-      ∙ ap (λ r. walking (begun core w.walked.batch (g.level - 1) phase.sketching w.walked.live.items g.candidates w.zero.items w.one.items r)) (sym recorded) in
-      (record {
-        fit = record {
-          bits_are = n.1 ∙ fit.bits_are;
-          cap_is = n.2 ∙ fit.cap_is;
-          some_level = omega (arith, n.3);
-          levels = fit.levels;
-          small = fit.small;
-        };
-        kept = subst (IsCarriedOn core) same kept;
-      }, same)
+      ∙ ap (λ r. walking (begun core w.walked.batch (g.level - 1) phase.sketching w.walked.live.items g.candidates w.zero.items w.one.items r)) (sym recorded) in (
+        record {
+          fit = record {
+            bits_are = n.1 ∙ fit.bits_are;
+            cap_is = n.2 ∙ fit.cap_is;
+            some_level = omega (arith, n.3);
+            levels = fit.levels;
+            small = fit.small;
+          };
+          kept = subst (IsCarriedOn core) same kept;
+        },
+        same,
+      )
 
   told-end : (ending : Ending) → ends_seen core w.walked.batch f w.walked.live.items w.walked.totals.items w.zero.items w.one.items ns fit.some_level fit.bits_are fit.cap_is (Some ending)
       ≡ systems.told walked_on None (Some ending)

@@ -163,17 +163,18 @@ module _ (core : CoreSettings) (s : StageSeen) (sides : Sides) (is : AreSides co
   live-found ss ts live kind e f found = (
     kind,
     found
-    ∙ ap (λ x. passed_by s.batch (suc s.past) s.live x ts) (half-sums core (phase_at s) Zero sides.zero is.zero ss kind e)
-    ∙ ap (λ x. passed_by s.batch (suc s.past) s.live (sums_in (half_seen core (phase_at s) Zero sides.zero).values) x) (half-sums core (phase_at s) One sides.one is.one ts kind f),
+        ∙ ap (λ x. passed_by s.batch (suc s.past) s.live x ts) (half-sums core (phase_at s) Zero sides.zero is.zero ss kind e)
+        ∙ ap (λ x. passed_by s.batch (suc s.past) s.live (sums_in (half_seen core (phase_at s) Zero sides.zero).values) x) (half-sums core (phase_at s) One sides.one is.one ts kind f),
   )
 
   pub totals-found-both : (ms ns : List ℕ) (totals : Vec ℕ) → s.kind ≡ phase.totalling → ms ≡ totals_of sides.zero.state.plan (tiles_in sides.zero.state.log)
       → ns ≡ totals_of sides.one.state.plan (tiles_in sides.one.state.log) → totals.items ≡ paired add ms ns → IsFound core s sides (Added totals)
   totals-found-both ms ns totals kind e f found =
       let m = totals-count core (phase_at s) Zero sides.zero is.zero ms e in
-      let n = totals-count core (phase_at s) One sides.one is.one ns f in
-      (kind,
-      ap length found ∙ paired-length add ms ns (m ∙ sym n) ∙ m,
-      found
-      ∙ ap (λ x. paired add x ns) (half-totals core (phase_at s) Zero sides.zero is.zero ms kind e)
-      ∙ ap (λ x. paired add (totals_in (half_seen core (phase_at s) Zero sides.zero).values) x) (half-totals core (phase_at s) One sides.one is.one ns kind f))
+      let n = totals-count core (phase_at s) One sides.one is.one ns f in (
+        kind,
+        ap length found ∙ paired-length add ms ns (m ∙ sym n) ∙ m,
+        found
+            ∙ ap (λ x. paired add x ns) (half-totals core (phase_at s) Zero sides.zero is.zero ms kind e)
+            ∙ ap (λ x. paired add (totals_in (half_seen core (phase_at s) Zero sides.zero).values) x) (half-totals core (phase_at s) One sides.one is.one ns kind f),
+      )

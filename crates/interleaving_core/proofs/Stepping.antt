@@ -137,12 +137,15 @@ module _ (core : CoreSettings) (s : StageSeen) where
     run-carried sides new events rest event true h e c is =
         let count = ap length e in
         let same = is.1 in
-        let there = subst (AreSides core s) (sym same) h.sides_are in
-        (there, is.2, omega (arith, count, h.fewer),
-        h.ran ∙ ap (λ l. run core (events_of l) (walking (walking_at core s sides))) e
-        ∙ ap (λ x. run core (events_of rest) (after core x (walking (walking_at core s sides)))) is.0
-        ∙ ap (λ x. run core (events_of rest) (after core system.carry (walking (walking_at core s x)))) (sym same)
-        ∙ ap (run core (events_of rest)) (carry-leads new there is.2))
+        let there = subst (AreSides core s) (sym same) h.sides_are in (
+          there,
+          is.2,
+          omega (arith, count, h.fewer),
+          h.ran ∙ ap (λ l. run core (events_of l) (walking (walking_at core s sides))) e
+              ∙ ap (λ x. run core (events_of rest) (after core x (walking (walking_at core s sides)))) is.0
+              ∙ ap (λ x. run core (events_of rest) (after core system.carry (walking (walking_at core s x)))) (sym same)
+              ∙ ap (run core (events_of rest)) (carry-leads new there is.2),
+        )
 
     pub run-cut : (sides : Sides) (events rest : List Event) → HasRun core s first old sides events → events ≡ [] → HasEnded core s first old sides rest false
     run-cut sides events rest h e = h.ran ∙ ap (λ l. run core (events_of l) (walking (walking_at core s sides))) e

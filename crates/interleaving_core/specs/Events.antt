@@ -15,8 +15,10 @@ event_of (Evict side report prefix) = system.of_half side (evict report prefix)
 event_of (Post side worker) = system.of_half side (post worker)
 event_of (Sweep side) = system.of_half side sweep
 event_of Carry = system.carry
+
 abbrev pub events_of : List Event → List system.Event
 events_of events = map event_of events
+
 -- the event is of neither side's phase
 abbrev pub IsOfNoSide : Event → Type 0
 IsOfNoSide (Upload side pass share) = Unit {0}
@@ -28,6 +30,7 @@ IsOfNoSide (Evict side report prefix) = ⊥
 IsOfNoSide (Post side worker) = ⊥
 IsOfNoSide (Sweep side) = ⊥
 IsOfNoSide Carry = Unit {0}
+
 -- a share that is uploaded has so many levels
 abbrev pub HasLevels : ℕ → Event → Type 0
 HasLevels bits (Upload side pass share) = length share.levels ≡ bits
@@ -39,6 +42,7 @@ HasLevels bits (Evict side report prefix) = Unit {0}
 HasLevels bits (Post side worker) = Unit {0}
 HasLevels bits (Sweep side) = Unit {0}
 HasLevels bits Carry = Unit {0}
+
 -- how many uploads an event is
 abbrev pub one_upload : Event → ℕ
 one_upload (Upload side pass share) = 1
@@ -50,6 +54,7 @@ one_upload (Evict side report prefix) = 0
 one_upload (Post side worker) = 0
 one_upload (Sweep side) = 0
 one_upload Carry = 0
+
 abbrev pub uploads_in : List Event → ℕ
 uploads_in [] = 0
 uploads_in (event ∷ events) = one_upload event + uploads_in events

@@ -12,13 +12,17 @@ pub struct EventQueue {
     // the next one last
     reversed: Vec<Event>,
 }
+
 impl Model for EventQueue {
     ghost use Rattle.std.specs.Prelude.{List};
     ghost use Rattle.std.specs.Prelude.{reverse};
     ghost use Rattle.interleaving_core.specs.declared.events.Event.{Event as Kind};
+
     ghost Value = { List Kind };
+
     ghost view = { λ q. reverse q.reversed.items };
 }
+
 impl EventQueue {
     /// All of these, in their order.
     pub fn of(events: Vec<Event>) -> EventQueue

@@ -130,7 +130,12 @@ fn find_all(
 {
     match stage.kind {
         Kind::Sketch => {
-            let live = passed_places(alloc, stage, sides.zero.state.sums(), sides.one.state.sums())?;
+            let live = passed_places(
+                alloc,
+                stage,
+                sides.zero.state.sums(),
+                sides.one.state.sums(),
+            )?;
             Ok(Found::Live(live))
         }
         Kind::Totals => {

@@ -120,7 +120,12 @@ fn take_turn(
                     walked.kind = Kind::Totals;
                     Ok(Turn::Further(Walker { walked, zero, one }))
                 }
-                Found::Added(totals) => prune(alloc, settings, Walker { walked, zero, one }, totals),
+                Found::Added(totals) => prune(
+                    alloc,
+                    settings,
+                    Walker { walked, zero, one },
+                    totals,
+                ),
             }
         }
     }

@@ -46,11 +46,7 @@ fn all_places(alloc: Global, count: u32) -> Result<Vec<u32>, AllocError>
 
 impl Walked {
     /// The walk before level 1, of which every report is live. `AllocError` is want of memory.
-    pub fn begin(
-        alloc: Global,
-        settings: &CoreSettings,
-        batch: Batch,
-    ) -> Result<Walked, AllocError>
+    pub fn begin(alloc: Global, settings: &CoreSettings, batch: Batch) -> Result<Walked, AllocError>
         requires usable { AreUsable MOST_BITS settings.now }
         requires few { length batch < 2 ^ 31 }
         ensures { IfOk result (IsFirst settings.now batch) }
