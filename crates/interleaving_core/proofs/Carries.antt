@@ -133,14 +133,6 @@ module _ (core : CoreSettings) (s : StageSeen) where
     kept1 = are.one.kept;
   }
 
-  -- the events end in the phase
-  pub phase-cut : (first sides : Sides) (cache0 cache1 : List CacheEntry) (old new : List Event)
-      → half_seen core (phase_at s) Zero first.zero ≡ fresh_half core (phase_at s) cache0
-      → half_seen core (phase_at s) One first.one ≡ fresh_half core (phase_at s) cache1
-      → HasEnded core s first old sides new false → IsCut core s cache0 cache1 old
-  phase-cut first sides cache0 cache1 old new e f ran =
-      ap (λ w. seen (run core (events_of old) (walking w))) (sym (begun-is first cache0 cache1 e f)) ∙ ap seen ran
-
   -- ---- what is carried
 
   carried-live : (sides : Sides) (live : Vec ℕ) → IsFound core s sides (Live live)

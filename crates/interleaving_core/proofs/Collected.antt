@@ -33,9 +33,6 @@ module _ (core : CoreSettings) (old : List Event) where
   abbrev Long : Entry → Type 0
   Long e = length e.share.levels ≡ core.walk.bits
 
-  pub collect-begins : AllByRecursion (HasLevels core.walk.bits) old → HasCollected core old [] [] old
-  collect-begins h = record { ran = refl; levels0 = tt; levels1 = tt; left = h; few = omega arith; fewer = omega arith }
-
   module _ (log0 log1 : List Entry) (events rest : List Event) (h : HasCollected core old log0 log1 events) where
     -- the first event is taken, and the logs are as they were
     same-logs : (event : Event) → events ≡ event ∷ rest → after core (event_of event) (collecting log0 log1) ≡ collecting log0 log1 → HasCollected core old log0 log1 rest
@@ -139,13 +136,3 @@ module _ (core : CoreSettings) (old : List Event) where
           few = omega (arith, most, same, all0, h.few);
           fewer = omega (arith, h.fewer, long);
         }
-
-    -- the events end
-    pub nothing-sealed : events ≡ [] → seen (run core (events_of old) first_system) ≡ nothing_seen
-    nothing-sealed e = ap seen (h.ran ∙ ap (λ l. run core (events_of l) (collecting log0 log1)) e)
-
--- the batch is not too large for the cap
-pub batch-small : (core : CoreSettings) (old new : List Event) (b : List Report) → IsSealed core old new b → uploads_in old * core.walk.cap < 2 ^ 31
-    → length b * core.walk.cap < 2 ^ 31
-batch-small core old new b sealed_ small =
-    let most = mul-le (length b) core.walk.cap (uploads_in old) core.walk.cap sealed_.few (omega arith) in omega (arith, most, small)

@@ -112,25 +112,6 @@ module _ (core : CoreSettings) (s : StageSeen) where
   -- ---- many events
 
   module _ (first : Sides) (old : List Event) where
-    pub run-begins : AreSides core s first → HasRoom (length old) first → HasRun core s first old first old
-    run-begins h room = record { sides_are = h; room = room; fewer = omega arith; ran = refl }
-
-    pub room-left : (sides : Sides) (events rest : List Event) (event : Event) → HasRun core s first old sides events → events ≡ event ∷ rest → HasRoom 1 sides
-    room-left sides events rest event h e =
-        let count = ap length e in (omega (arith, count, h.room.0), omega (arith, count, h.room.1))
-
-    pub run-goes-on : (sides new : Sides) (events rest : List Event) (event : Event) (complete : Bool) → HasRun core s first old sides events → events ≡ event ∷ rest
-        → complete ≡ false → IsTaken core s (event_of event) sides new complete → HasRun core s first old new rest
-    run-goes-on sides new events rest event true h e c is = absurd (false≢true (sym c))
-    run-goes-on sides new events rest event false h e c is =
-        let count = ap length e in
-        record {
-          sides_are = is.sides;
-          room = (omega (arith, count, h.room.0, is.counters.0), omega (arith, count, h.room.1, is.counters.1));
-          fewer = omega (arith, count, h.fewer);
-          ran = h.ran ∙ ap (λ l. run core (events_of l) (walking (walking_at core s sides))) e ∙ ap (run core (events_of rest)) is.after;
-        }
-
     pub run-carried : (sides new : Sides) (events rest : List Event) (event : Event) (complete : Bool) → HasRun core s first old sides events → events ≡ event ∷ rest
         → complete ≡ true → IsTaken core s (event_of event) sides new complete → HasEnded core s first old new rest true
     run-carried sides new events rest event false h e c is = absurd (false≢true c)
@@ -146,6 +127,3 @@ module _ (core : CoreSettings) (s : StageSeen) where
               ∙ ap (λ x. run core (events_of rest) (after core system.carry (walking (walking_at core s x)))) (sym same)
               ∙ ap (run core (events_of rest)) (carry-leads new there is.2),
         )
-
-    pub run-cut : (sides : Sides) (events rest : List Event) → HasRun core s first old sides events → events ≡ [] → HasEnded core s first old sides rest false
-    run-cut sides events rest h e = h.ran ∙ ap (λ l. run core (events_of l) (walking (walking_at core s sides))) e
