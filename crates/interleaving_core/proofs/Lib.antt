@@ -1,0 +1,10 @@
+pub mod Passing
+pub mod Readings
+pub mod Completion
+pub mod Stepping
+pub mod Carries
+pub mod Pruning
+pub mod Fits
+pub mod Walked
+pub mod Collected
+pub mod Following
