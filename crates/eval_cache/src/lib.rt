@@ -9,6 +9,8 @@ mod shared;
 mod state;
 #[cfg(test)]
 mod tests;
+#[cfg(test)]
+mod thread_tests;
 mod through;
 
 pub use key::Key;
