@@ -1,0 +1,3 @@
+mod OneStep
+mod Entries
+mod Shards

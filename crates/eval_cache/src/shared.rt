@@ -1,0 +1,131 @@
+//! The shared cache: several shards, each behind a lock of its own, used by many threads through passes.
+//! What is found is the evaluated node; whether it is found depends on who came when.
+
+ghost use Rattle.std.specs.Prelude.{◌≡◌, ◌<◌, ◌≤◌, ◌%◌, [], length, IfOk, vec_len};
+ghost use Rattle.std.specs.List.{AllByRecursion};
+ghost use Rattle.lock_row.specs.Rows.{turn_locks};
+ghost use Rattle.eval_cache.specs.Shards.{plan_of, planned, AreFound, AreFor};
+
+use crate::pass::{CachePass, passes_of};
+use crate::shard::{Shard, empty_shards};
+use idpf_eval::{Node, Share};
+use lock_row::{Row, RowTurn};
+use prefix_bits::{Prefix, Side};
+use std::alloc::{AllocError, Global};
+use std::marker::Model;
+use std::sync::Wait;
+
+/// Evaluated nodes of one side's shares, to be shared by `&`. The nodes of report n are in the shard n modulo the number of shards.
+#[derive(Drop)]
+pub struct EvalCache<'a> {
+    shares: &'a [Share],
+    side: Side,
+    row: Row<Shard<'a>>,
+}
+
+impl<'a> Model for EvalCache<'a> {
+    ghost use Rattle.std.specs.Prelude.{◌<◌, length};
+    ghost use Rattle.eval_cache.specs.Shards.{SharedSeen, AreShards};
+
+    ghost Value = { SharedSeen };
+
+    ghost view = { λ c. record { shares = c.shares.now; side = c.side; locks = c.row.locks } };
+
+    ghost invariant = { λ c. (0 < length c.row.locks) × AreShards c.side c.shares.now c.row.locks };
+}
+
+impl<'a> EvalCache<'a> {
+    /// A cache of so many shards, each for at most so many entries, with 1 to 4096 passes. It has no entry yet.
+    /// `AllocError` is want of memory.
+    pub fn new(
+        alloc: Global,
+        shares: &'a [Share],
+        side: Side,
+        shards: u32,
+        entries: u32,
+        passes: u32,
+    ) -> Result<(EvalCache<'a>, Vec<CachePass<'a>>), AllocError>
+        requires shards { 0 < shards }
+        requires entries { 0 < entries }
+        requires passes { (0 < passes) × (passes ≤ 4096) }
+        ensures shares { IfOk result (λ made. made.0.shares ≡ shares.entry.now) }
+        ensures side { IfOk result (λ made. made.0.side ≡ side) }
+        ensures shards { IfOk result (λ made. length made.0.locks ≡ shards) }
+        ensures count { IfOk result (λ made. vec_len made.1 ≡ passes) }
+        ensures passes { IfOk result (λ made. AllByRecursion (λ pass. pass ≡ made.0.locks) made.1.items) }
+    {
+        let states = empty_shards(alloc, shares, side, shards, entries)?;
+        let (row, rows) = Row::new(alloc, states, passes)?;
+        let made = passes_of(alloc, rows)?;
+        Ok((EvalCache { shares, side, row }, made))
+    }
+
+    /// Looks the prefixes of a report up, and says of each in `into`, at its place, what was found: each
+    /// node is the evaluated one. It waits for its turn at the report's shard, once, and takes no memory.
+    pub fn gather<R: Wait>(
+        &self,
+        rt: &R,
+        pass: CachePass<'a>,
+        report: u32,
+        prefixes: &[Prefix],
+        into: &mut [Option<Node>],
+    ) -> CachePass<'a>
+        requires this_cache { pass ≡ self.now.locks }
+        requires lengths { length prefixes.now ≡ length into.old }
+        ensures this_cache { result ≡ self.now.locks }
+        ensures lengths { length into.new ≡ length into.old }
+        ensures found { AreFound self.now.shares self.now.side report prefixes.now into.new }
+    {
+        let (mut from, turn) = self.take_shard(rt, pass, report);
+        from.look_all(report, prefixes, into);
+        self.give_shard(from, turn)
+    }
+
+    /// Offers the evaluated nodes of a report's prefixes to its shard, in order. It waits for its turn there, once.
+    /// A node that finds no memory is not kept.
+    pub fn scatter<R: Wait>(
+        &self,
+        rt: &R,
+        pass: CachePass<'a>,
+        report: u32,
+        prefixes: &[Prefix],
+        nodes: &[Node],
+    ) -> CachePass<'a>
+        requires this_cache { pass ≡ self.now.locks }
+        requires report { report < length self.now.shares }
+        requires nodes { AreFor self.now.shares self.now.side report prefixes.now nodes.now }
+        ensures this_cache { result ≡ self.now.locks }
+    {
+        let (mut to, turn) = self.take_shard(rt, pass, report);
+        to.keep_all(report, prefixes, nodes);
+        self.give_shard(to, turn)
+    }
+
+    /// Waits for the turn at the report's shard, and takes it.
+    fn take_shard<R: Wait>(
+        &self,
+        rt: &R,
+        pass: CachePass<'a>,
+        report: u32,
+    ) -> (Shard<'a>, RowTurn<Shard<'a>>)
+        requires this_cache { pass ≡ self.now.locks }
+        ensures count { 0 < length self.now.locks }
+        ensures shard { plan_of result.0 ≡ planned self.now.side self.now.shares (length self.now.locks) (report % length self.now.locks) }
+        ensures this_cache { turn_locks result.1 ≡ self.now.locks }
+        ensures plan { plan_of result.0 ≡ result.1.turn.lock.plan }
+        ensures empty { result.1.turn.taken ≡ [] }
+    {
+        self.row
+            .take(rt, report as usize % self.row.len(), pass.into_row())
+    }
+
+    /// Gives a shard back.
+    fn give_shard(&self, shard: Shard<'a>, turn: RowTurn<Shard<'a>>) -> CachePass<'a>
+        requires this_cache { turn_locks turn ≡ self.now.locks }
+        requires plan { plan_of shard ≡ turn.turn.lock.plan }
+        requires empty { turn.turn.taken ≡ [] }
+        ensures this_cache { result ≡ self.now.locks }
+    {
+        CachePass::of(self.row.give(shard, turn))
+    }
+}
