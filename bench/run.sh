@@ -1,9 +1,9 @@
 #!/usr/bin/env bash
-# Times `poplar run` over the share files of REPORTS reports of 2 bytes: of every eight, one string each is held by 4, 2, 1 and 1 of
-# them. REPORTS is 1000 where it is not given; the threshold is a tenth of it.
+# Times `poplar run` with 1, 2 and 4 workers, one after the other, over the share files of REPORTS reports of 2 bytes: of every
+# eight, one string each is held by 4, 2, 1 and 1 of them. REPORTS is 2000 where it is not given; the threshold is a tenth of it.
 set -eu
 root=$(cd "$(dirname "$(readlink -f "${BASH_SOURCE[0]}")")/.." && pwd)
-reports=${1:-1000}
+reports=${1:-2000}
 folder=$(mktemp -d)
 trap 'rm -rf "$folder"' EXIT
 for ((i = 0; i < reports; i++)); do
@@ -11,7 +11,9 @@ for ((i = 0; i < reports; i++)); do
 done > "$folder/strings"
 master=$(printf '00%.0s' $(seq 32))
 "$root/poplar" gen --width 2 --master "$master" "$folder/strings" "$folder/zero.share" "$folder/one.share"
-start=$(date +%s%N)
-/usr/bin/time -f 'kilobytes at most %M' "$root/poplar" run --threshold $((reports / 10)) "$folder/zero.share" "$folder/one.share"
-end=$(date +%s%N)
-echo "reports $reports, milliseconds $(((end - start) / 1000000)), microseconds a report $(((end - start) / (1000 * reports)))"
+for workers in 1 2 4; do
+  start=$(date +%s%N)
+  /usr/bin/time -f 'kilobytes at most %M' "$root/poplar" run --threshold $((reports / 10)) --workers "$workers" "$folder/zero.share" "$folder/one.share"
+  end=$(date +%s%N)
+  echo "reports $reports, workers $workers, milliseconds $(((end - start) / 1000000)), microseconds a report $(((end - start) / (1000 * reports)))"
+done

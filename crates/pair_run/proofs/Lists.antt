@@ -1,17 +1,10 @@
 -- What the loops over live reports and candidates cite.
 use Rattle.std.proofs.Common.{◌≡◌, ℕ, zero, suc, ◌+◌, ◌<◌, Bool, true, false, List, [], ◌∷◌, ◌++◌, length, get_or, take, drop, refl, sym, ◌∙◌, ap, subst, add-one, arith, append_assoc}
-use Rattle.std.specs.Prelude.{map, ◌==◌, if◌then◌else◌}
+use Rattle.std.specs.Prelude.{◌==◌, if◌then◌else◌}
 use Rattle.std.specs.List.{All}
-use Rattle.definitions.specs.declared.Side.{Side}
-use Rattle.definitions.specs.declared.Side.TheVariants.{Zero, One}
-use Rattle.definitions.specs.Evaluation.{Share}
-use Rattle.definitions.specs.Field.{add, mul, total_by}
-use Rattle.definitions.specs.Sketch.{weighted}
-use Rattle.definitions.proofs.FieldLaws.{add_assoc, total_by-nil, total_by-cons, total_by-append}
-use Rattle.definitions.proofs.Ring.{var, num, ◌⊕◌, ◌⊗◌, ring}
-use Rattle.walk_definitions.specs.Reports.{Report, held}
+use Rattle.walk_definitions.specs.Reports.{Report}
 use Rattle.walk_definitions.specs.Heard.{kept}
-use Rattle.pair_run.specs.Places.{picked, alone}
+use Rattle.pair_run.specs.Places.{picked}
 
 module _ {X : Type 0} where
   -- the item at a place, as a list
@@ -36,42 +29,6 @@ module _ {X : Type 0} where
   some_at zero (x ∷ xs) h = (x, refl)
   some_at (suc i) (x ∷ xs) h = some_at i xs (omega arith)
 
-  total_one : (f : X → ℕ) (rs : List X) (r : X) → total_by f (rs ++ r ∷ []) ≡ add (total_by f rs) (f r)
-  total_one f rs r =
-      total_by-append f rs (r ∷ []) ∙ ap (add (total_by f rs)) (total_by-cons f r [] ∙ ap (add (f r)) (total_by-nil f))
-      ∙ ring (total_by f rs ∷ f r ∷ []) (var 0 ⊕ (var 1 ⊕ num 0)) (var 0 ⊕ var 1) refl refl refl
-
-  pub map_one : {Y : Type 0} (f : X → Y) (xs : List X) (x : X) → map f (xs ++ x ∷ []) ≡ map f xs ++ f x ∷ []
-  map_one f [] x = refl
-  map_one f (y ∷ xs) x = ap (λ t. f y ∷ t) (map_one f xs x)
-
-  pub weighted-more : (coin : ℕ → ℕ) (place : ℕ) (f : X → ℕ) (i : ℕ) (xs : List X) (x : X) → i < length xs → get_or xs i x ≡ x
-      → weighted coin place (map f (take (i + 1) xs)) ≡ add (weighted coin place (map f (take i xs))) (mul (coin (place + i)) (f x))
-  weighted-more coin place f i [] x h e = absurd (omega arith)
-  weighted-more coin place f zero (y ∷ ys) x h e =
-      let same : place ≡ place + 0 = omega arith in
-      let is : y ≡ x = e in
-      ring (coin place ∷ f y ∷ []) (var 0 ⊗ var 1 ⊕ num 0) (num 0 ⊕ var 0 ⊗ var 1) refl refl refl
-      ∙ ap (λ p. add 0 (mul (coin p) (f y))) same
-      ∙ ap (λ z. add 0 (mul (coin (place + 0)) (f z))) is
-  weighted-more coin place f (suc i) (y ∷ ys) x h e =
-      let same : place + 1 + i ≡ place + suc i = omega arith in
-      ap (λ k. weighted coin place (map f (take k (y ∷ ys)))) (add-one (suc i))
-      ∙ ap (λ k. add (mul (coin place) (f y)) (weighted coin (place + 1) (map f (take k ys)))) (sym (add-one i))
-      ∙ ap (λ t. add (mul (coin place) (f y)) t) (weighted-more coin (place + 1) f i ys x (omega arith) e)
-      ∙ sym (add_assoc (mul (coin place) (f y)) (weighted coin (place + 1) (map f (take i ys))) (mul (coin (place + 1 + i)) (f x)))
-      ∙ ap (λ p. add (add (mul (coin place) (f y)) (weighted coin (place + 1) (map f (take i ys)))) (mul (coin p) (f x))) same
-
-  -- a loop's step: the sum so far and the product at the next item
-  pub weighted-step : (coin : ℕ → ℕ) (f : X → ℕ) (i : ℕ) (xs : List X) (x : X) (old new r d : ℕ) → i < length xs → x ≡ get_or xs i x
-      → old ≡ weighted coin 0 (map f (take i xs)) → r ≡ coin i → d ≡ f x → new ≡ add old (mul r d)
-      → new ≡ weighted coin 0 (map f (take (i + 1) xs))
-  weighted-step coin f i xs x old new r d h is before same_r same_d same_new =
-      let more = weighted-more coin 0 f i xs x h (sym is) in
-      let place : 0 + i ≡ i = omega arith in
-      let at = ap coin place in
-      cc
-
 module _ {X : Type 0} where
   pub picked_step : (xs : List X) (ks : List ℕ) (i k : ℕ) (x : X) → i < length ks → k ≡ get_or ks i k → k < length xs → x ≡ get_or xs k x
       → picked xs (drop i ks) ≡ x ∷ picked xs (drop (i + 1) ks)
@@ -83,39 +40,6 @@ module _ {X : Type 0} where
   picked_append xs (j ∷ ks) k =
       ap (λ t. take 1 (drop j xs) ++ t) (picked_append xs ks k) ∙ sym (append_assoc (take 1 (drop j xs)) (picked xs ks) (picked xs (k ∷ [])))
 
-  -- a loop's step: what was made so far, and what the items to come make
-  pub map_step : {Y : Type 0} (f : X → Y) (found whole : List Y) (v : Y) (xs : List X) (ks : List ℕ) (i k : ℕ) (x : X)
-      → i < length ks → k ≡ get_or ks i k → k < length xs → x ≡ get_or xs k x → v ≡ f x
-      → found ++ map f (picked xs (drop i ks)) ≡ whole → (found ++ v ∷ []) ++ map f (picked xs (drop (i + 1) ks)) ≡ whole
-  map_step f found whole v xs ks i k x h e below is value before =
-      append_assoc found (v ∷ []) (map f (picked xs (drop (i + 1) ks)))
-      ∙ ap (λ w. found ++ w ∷ map f (picked xs (drop (i + 1) ks))) value
-      ∙ sym (ap (λ t. found ++ map f t) (picked_step xs ks i k x h e below is))
-      ∙ before
-
-  -- the items at the first places
-  pub picked_take : (xs : List X) (ks : List ℕ) (i k : ℕ) (x : X) → i < length ks → k ≡ get_or ks i k → k < length xs → x ≡ get_or xs k x
-      → picked xs (take (i + 1) ks) ≡ picked xs (take i ks) ++ x ∷ []
-  picked_take xs [] i k x h e below is = absurd (omega arith)
-  picked_take xs (j ∷ ks) zero k x h e below is =
-      ap (λ n. take 1 (drop n xs) ++ []) (sym e) ∙ ap (λ t. t ++ []) (one_at k xs x below is)
-  picked_take xs (j ∷ ks) (suc i) k x h e below is =
-      ap (λ n. picked xs (take n (j ∷ ks))) (add-one (suc i))
-      ∙ ap (λ n. take 1 (drop j xs) ++ picked xs (take n ks)) (sym (add-one i))
-      ∙ ap (λ t. take 1 (drop j xs) ++ t) (picked_take xs ks i k x (omega arith) e below is)
-      ∙ sym (append_assoc (take 1 (drop j xs)) (picked xs (take i ks)) (x ∷ []))
-
-  -- a loop's step: the total so far, and the value of the next item
-  pub total_step : {Y : Type 0} (g : Y → ℕ) (f : X → Y) (xs : List X) (ks : List ℕ) (i k : ℕ) (x : X) (old new value : ℕ)
-      → i < length ks → k ≡ get_or ks i k → k < length xs → x ≡ get_or xs k x
-      → old ≡ total_by g (map f (picked xs (take i ks))) → value ≡ g (f x) → new ≡ add old value
-      → new ≡ total_by g (map f (picked xs (take (i + 1) ks)))
-  total_step g f xs ks i k x old new value h e below is before same_value same_new =
-      same_new ∙ ap (λ n. add n value) before ∙ ap (add (total_by g (map f (picked xs (take i ks))))) same_value
-      ∙ sym (ap (λ t. total_by g (map f t)) (picked_take xs ks i k x h e below is)
-      ∙ ap (total_by g) (map_one f (picked xs (take i ks)) x)
-      ∙ total_one g (map f (picked xs (take i ks))) (f x))
-
 take_one_more : {X : Type 0} (k : ℕ) (xs : List X) → take k xs ++ (take 1 (drop k xs) ++ []) ≡ take (k + 1) xs
 take_one_more zero [] = refl
 take_one_more (suc k) [] = ap (λ n. take n []) (sym (add-one (suc k)))
@@ -126,10 +50,6 @@ take_one_more (suc k) (x ∷ xs) =
 -- a loop's step: the first places pick the first items
 pub first_places : {X : Type 0} (xs : List X) (live : List ℕ) (k : ℕ) → picked xs live ≡ take k xs → picked xs (live ++ k ∷ []) ≡ take (k + 1) xs
 first_places xs live k e = picked_append xs live k ∙ ap (λ t. t ++ (take 1 (drop k xs) ++ [])) e ∙ take_one_more k xs
-
-pub held_alone : (share : Share) (side : Side) → share ≡ held (alone share) side
-held_alone share Zero = refl
-held_alone share One = refl
 
 -- a loop's step: the places kept so far, and what is kept of those to come
 pub kept_step : (batch : List Report) (live numbers still : List ℕ) (whole : List Report) (i place n : ℕ) (b : Bool)

@@ -1,5 +1,5 @@
 -- A side's plan of a phase, and what its sums and totals are in the words of the walk.
-use Rattle.std.proofs.Common.{◌≡◌, ℕ, ◌+◌, ◌<◌, ◌≤◌, ◌^◌, Bool, List, [], ◌∷◌, ◌++◌, length, refl, sym, ◌∙◌, ap, subst, arith}
+use Rattle.std.proofs.Common.{◌≡◌, ℕ, ◌<◌, ◌≤◌, ◌^◌, Bool, List, [], ◌∷◌, ◌++◌, length, refl, sym, ◌∙◌, ap, subst, arith}
 use Rattle.std.specs.Prelude.{map}
 use Rattle.std.specs.List.{All, AllByRecursion}
 use Rattle.std.proofs.lemmas.List.Elements.{recursion_from_All}
@@ -25,7 +25,7 @@ use Rattle.pair_run.specs.Plans.{HasFewTiles, side_plan}
 use Rattle.pair_run.specs.Ranges.{AreInRange}
 use Rattle.pair_run.specs.Rules.{rules_of}
 use Rattle.pair_run.proofs.Lists.{one_at, read_at}
-use Rattle.pair_run.proofs.SideNumbers.{picked_map, side_sums_are, places_within, length_map}
+use Rattle.pair_run.proofs.SideNumbers.{picked_map, side_sums_are, places_within}
 
 -- the shares at places that are there
 share_picked : (shares : List Share) (live : List ℕ) → AllByRecursion (λ k. k < length shares) live → map (share_at shares) live ≡ picked shares live

@@ -1,21 +1,20 @@
 -- A side's numbers of a batch's live reports, from its shares alone.
-use Rattle.std.proofs.Common.{◌≡◌, ℕ, zero, suc, ◌<◌, ◌≤◌, Bool, List, [], ◌∷◌, ◌++◌, length, take, drop, refl, sym, ◌∙◌, ap, subst, arith, length-append}
+use Rattle.std.proofs.Common.{◌≡◌, ℕ, zero, suc, ◌<◌, Bool, List, [], ◌∷◌, ◌++◌, length, take, drop, refl, sym, ◌∙◌, ap, subst, arith, length-append}
 use Rattle.std.specs.Prelude.{map}
 use Rattle.std.specs.List.{All, AllByRecursion}
 use Rattle.std.proofs.lemmas.List.Elements.{All-from_recursion}
 use Rattle.definitions.specs.declared.Side.{Side}
 use Rattle.definitions.specs.declared.Side.TheVariants.{Zero, One}
-use Rattle.definitions.specs.Field.{modulus, add}
-use Rattle.definitions.specs.Evaluation.{Share, node}
+use Rattle.definitions.specs.Field.{modulus}
+use Rattle.definitions.specs.Evaluation.{Share}
 use Rattle.definitions.specs.Sketch.{Sums, coin}
 use Rattle.definitions.specs.Check.{masked_sums}
-use Rattle.definitions.proofs.FieldLaws.{total_by-cons, total_by-below}
+use Rattle.definitions.proofs.FieldLaws.{total_by-below}
 use Rattle.walk_definitions.specs.Reports.{Report, held}
 use Rattle.walk_definitions.specs.Walk.{Settings, own_sums, own_sigma, own_total}
 use Rattle.walk_definitions.specs.Messages.{flat}
 use Rattle.walk_definitions.specs.Heard.{sigmas}
 use Rattle.walk_definitions.proofs.TrueLink.{add-below, below-map, below-flat}
-use Rattle.pair_run.specs.Levels.{HaveLevels}
 use Rattle.pair_run.specs.Places.{picked, alone}
 
 module _ {X Y : Type 0} (f : X → Y) where
@@ -118,36 +117,6 @@ module _ (side : Side) where
       ∙ ap (λ ss. sigmas level side (map alone ss) opened) (picked_map (λ r. held r side) batch live)
       ∙ sigmas_alone level (picked batch live) opened
 
-  abbrev value_at : List Bool → Report → ℕ
-  value_at prefix report = (node (held report side) side prefix).d
-
-  value_alone : (prefix : List Bool) (r : Report) → value_at prefix (alone (held r side)) ≡ value_at prefix r
-  value_alone prefix r = at side
-    where
-      at : (side : Side) → (node (held (alone (held r side)) side) side prefix).d ≡ (node (held r side) side prefix).d
-      at Zero = refl
-      at One = refl
-
-  total_alone : (prefix : List Bool) (rs : List Report) → own_total (alone_of rs) side prefix ≡ own_total rs side prefix
-  total_alone prefix [] = refl
-  total_alone prefix (r ∷ rs) =
-      total_by-cons (value_at prefix) (alone (held r side)) (alone_of rs)
-      ∙ ap (λ n. add n (own_total (alone_of rs) side prefix)) (value_alone prefix r)
-      ∙ ap (add (value_at prefix r)) (total_alone prefix rs)
-      ∙ sym (total_by-cons (value_at prefix) r rs)
-
-  totals_alone : (candidates : List (List Bool)) (rs : List Report) → map (own_total (alone_of rs) side) candidates ≡ map (own_total rs side) candidates
-  totals_alone [] rs = refl
-  totals_alone (q ∷ qs) rs = let first = total_alone q rs in let rest = totals_alone qs rs in cc
-
-  -- totals over the live reports
-  pub side_totals_are : (candidates : List (List Bool)) (batch : List Report) (shares : List Share) (live : List ℕ) → shares ≡ map (λ r. held r side) batch
-      → map (own_total (map alone (picked shares live)) side) candidates ≡ map (own_total (picked batch live) side) candidates
-  side_totals_are candidates batch shares live e =
-      ap (λ ss. map (own_total (map alone (picked ss live)) side) candidates) e
-      ∙ ap (λ ss. map (own_total (map alone ss) side) candidates) (picked_map (λ r. held r side) batch live)
-      ∙ totals_alone candidates (picked batch live)
-
 -- ---- elements of the field
 
 pub sums_below : (settings : Settings) (level : ℕ) (candidates : List (List Bool)) (side : Side) (rs : List Report) (sums : List Sums)
@@ -173,20 +142,6 @@ totals_below candidates side rs numbers e =
     subst (All (λ n. n < modulus)) (sym e) (All-from_recursion (λ n. n < modulus) (map (own_total rs side) candidates) (below-map (own_total rs side) (λ q. total_by-below _ rs) candidates))
 
 -- ---- conditions
-
-pub long_all : (level : ℕ) (candidates : List (List Bool)) (batch : List Report) (side : Side) (shares : List Share) → shares ≡ map (λ r. held r side) batch
-    → All (λ q. length q ≡ level) candidates → HaveLevels level batch → All (λ s. All (λ q. length q ≤ length s.levels) candidates) shares
-long_all level candidates batch side shares e long have = λ k d h j b i.
-    let s = subst (All (λ s. level ≤ length s.levels)) (sym e) (have side) k d h in
-    let q = long j b i in
-    omega arith
-
-pub all_long : (level : ℕ) (candidates : List (List Bool)) (batch : List Report) (side : Side) (shares : List Share) → shares ≡ map (λ r. held r side) batch
-    → All (λ q. length q ≡ level) candidates → HaveLevels level batch → All (λ q. All (λ s. length q ≤ length s.levels) shares) candidates
-all_long level candidates batch side shares e long have = λ j b i k d h.
-    let s = subst (All (λ s. level ≤ length s.levels)) (sym e) (have side) k d h in
-    let q = long j b i in
-    omega arith
 
 pub places_within : (batch : List Report) (side : Side) (shares : List Share) (live : List ℕ) → shares ≡ map (λ r. held r side) batch
     → All (λ k. k < length batch) live → All (λ k. k < length shares) live
