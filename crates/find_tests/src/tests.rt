@@ -1,6 +1,8 @@
 //! Searches over shelves and links in memory, by worked examples: the strings of a file, the workload, refusals and faults.
 //! Each compares both texts, or the error, exactly.
 
+ghost use Rattle.file_find.specs.Ranges.{IsInRange};
+
 mod finding;
 mod making;
 
@@ -28,15 +30,18 @@ fn is_expected(found: Result<RunTexts, FindError>, expected: Expected) -> bool {
     }
 }
 
-// Rules of a width, a threshold and a cap, with seeds of zeros; of numbers out of range the nearest that is in it.
-fn rules_of(width: u8, threshold: u64, cap: u32) -> FindRules {
+// Rules of a width, a threshold, a cap and a number of workers and uploaders, with seeds of zeros; of numbers out of range the
+// nearest that is in it.
+fn rules_of(width: u8, threshold: u64, cap: u32, crew: u32) -> FindRules
+    ensures range { IsInRange result }
+{
     FindRules {
         width: width.clamp(1, 32),
         threshold: threshold.clamp(1, 1 << 32),
         master: Seed([0; 32]),
         tag: 0,
-        workers: 4,
-        uploaders: 4,
+        workers: crew.clamp(1, 64),
+        uploaders: crew.clamp(1, 64),
         cap: cap.clamp(2, 65536),
         cache: 4096,
         verify: Seed([0; 32]),

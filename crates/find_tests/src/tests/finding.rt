@@ -1,6 +1,8 @@
 //! `find` over strings files: texts, refusals in their order, the list sent, and a shelf and a link that fail.
 //! The shelf holds what it held after each.
 
+ghost use Rattle.file_find.specs.Ranges.{IsInRange};
+
 use super::{Expected, is_expected, rules_of};
 use file_find::{FindError, FindRules, find_strings};
 use file_gen::GenError;
@@ -125,7 +127,9 @@ fn finds<R: Threads + Wait + Sync>(
     text: &[u8],
     rules: &FindRules,
     expected: Expected,
-) -> Result<bool, AllocError> {
+) -> Result<bool, AllocError>
+    requires rules { IsInRange rules.now }
+{
     let mut shelf = shelf_of(alloc, text, Call::Read, 0)?;
     let mut link = FirmLink::new(alloc);
     let found = find_strings(rt, alloc, "s", rules, &mut shelf, &mut link, &OpenGate);
@@ -140,7 +144,7 @@ fn finds<R: Threads + Wait + Sync>(
 fn files_come_to_their_frequent_strings(rt: HostRuntime) -> Result<(), AllocError> {
     let alloc = rt.alloc();
     for (text, width, threshold, cap, expected) in ROWS {
-        let rules = rules_of(width, threshold, cap);
+        let rules = rules_of(width, threshold, cap, 4);
         assert!(rt; finds(&rt, alloc, text, &rules, expected)?);
     }
     Ok(())
@@ -151,7 +155,7 @@ fn an_empty_file_sends_six_messages(rt: HostRuntime) -> Result<(), AllocError> {
     let alloc = rt.alloc();
     let mut shelf = shelf_of(alloc, b"", Call::Read, 0)?;
     let mut link = FirmLink::new(alloc);
-    let rules = rules_of(1, 1, 4096);
+    let rules = rules_of(1, 1, 4096, 4);
     let found = find_strings(&rt, alloc, "s", &rules, &mut shelf, &mut link, &OpenGate);
     let expected = Expected::Texts("", "sealed 0 passed 0 levels 1\n");
     assert!(rt; is_expected(found, expected));
@@ -169,7 +173,7 @@ fn an_empty_file_sends_six_messages(rt: HostRuntime) -> Result<(), AllocError> {
 #[test]
 fn a_missing_file_and_a_failed_shelf_send_nothing(rt: HostRuntime) -> Result<(), AllocError> {
     let alloc = rt.alloc();
-    let rules = rules_of(2, 2, 4096);
+    let rules = rules_of(2, 2, 4096, 4);
     let mut link = FirmLink::new(alloc);
     let mut shelf = shelf_of(alloc, b"ab\n", Call::Length, 2)?;
     let found = find_strings(&rt, alloc, "t", &rules, &mut shelf, &mut link, &OpenGate);
@@ -193,7 +197,7 @@ fn a_link_that_fails_its_third_send_has_two_messages(rt: HostRuntime) -> Result<
         &rt,
         alloc,
         "s",
-        &rules_of(2, 2, 4096),
+        &rules_of(2, 2, 4096, 4),
         &mut shelf,
         &mut link,
         &OpenGate,
