@@ -1,2 +1,2 @@
 pub mod NumberSteps
-pub mod RunPlaces
+mod CrateSteps

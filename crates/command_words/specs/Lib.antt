@@ -1,3 +1,3 @@
 pub mod Values
-pub mod Settings
-pub mod RunSettings
+pub mod Commands
+pub mod Reading
