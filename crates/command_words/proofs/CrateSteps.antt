@@ -1,7 +1,13 @@
 -- What the crate's reading of words comes to, and its list of arguments one by one.
-use Rattle.std.proofs.Common.{◌≡◌, ◌≢◌, ◌≤◌, ◌<◌, ◌+◌, ◌∙◌, ap, true, false, Bool, nat_eq, ℕ, List, [], ◌∷◌, length, Option, Some, None, refl, sym, Result, Ok, Err, IfOk, IfErr, subst, inl, inr, cond, fold, map, take, arith}
+use Rattle.std.proofs.Common.{◌≡◌, ◌≢◌, ◌≤◌, ◌<◌, ◌+◌, ◌∙◌, ap, ap₂, slice_index_or, true, false, Bool, nat_eq, ℕ, List, [], ◌∷◌, length, Option, Some, None, refl, sym, Result, Ok, Err, IfOk, IfErr, subst, inl, inr, cond, fold, map, take, arith}
 use Rattle.std.specs.Prelude.{◌⊎◌, ◌&&◌}
-use Rattle.clap.specs.Words.{App, Row, Rule, Text, Kinds, FailsBy, IsAmong, HasMatchesOf, HasKind, kind_of, is_simple, is_simple_and_free, matches_of, fault_of, rows_of, found_of, with_rule}
+use Rattle.std.specs.declared.alloc.AllocError.{AllocError}
+use Rattle.std.proofs.lemmas.Result.{IfOk-weaker}
+use Rattle.std.proofs.lemmas.List.Sums.{fold_more}
+use Rattle.clap.specs.declared.builder.command.Command.{Command}
+use Rattle.command_words.specs.declared.arguments.Argument.{Argument}
+use Rattle.command_words.specs.Commands.{rule_for, with_argument}
+use Rattle.clap.specs.Words.{App, app_of, Row, Rule, Text, Kinds, FailsBy, IsAmong, HasMatchesOf, HasKind, kind_of, is_simple, is_simple_and_free, matches_of, fault_of, rows_of, found_of, with_rule}
 use Rattle.clap.specs.declared.parser.matches.ArgMatches.{ArgMatches}
 use Rattle.clap.specs.declared.error.Error.{Error}
 use Rattle.clap.specs.declared.error.kind.ErrorKind.TheVariants.{OutOfMemory}
@@ -40,3 +46,15 @@ found_not app words e Usage free kinds memory = none_found (fault_of app words) 
       cc
   | inr among ↦ subst (IsAmong (kind_of e)) none among
 ])
+
+-- one more argument of a list is added
+pub one_more : (app old new : App) (rule : Rule) (arguments : List Argument) (i : ℕ) (d : Argument) → i < length arguments
+    → old ≡ fold with_argument app (take i arguments) → new ≡ with_rule old rule → rule ≡ rule_for (slice_index_or arguments i d)
+    → new ≡ fold with_argument app (take (i + 1) arguments)
+one_more app old new rule arguments i d inside before added is =
+    added ∙ ap₂ with_rule before is ∙ sym (fold_more with_argument app arguments i d inside)
+
+-- the app of a command that was given a list of arguments
+pub given : (r : Result Command AllocError) (app model : App) (arguments list : List Argument) → app ≡ model → arguments ≡ list
+    → IfOk r (λ c. app_of c ≡ fold with_argument app arguments) → IfOk r (λ c. app_of c ≡ fold with_argument model list)
+given r app model arguments list same is holds = IfOk-weaker r _ _ (λ c h. h ∙ ap₂ (fold with_argument) same is) holds

@@ -1,2 +1,3 @@
 pub mod NumberSteps
 mod CrateSteps
+mod Simple

@@ -22,6 +22,9 @@ rule_for (Word name) = word_rule name.now
 rule_for (Needed name) = needed_rule name.now
 rule_for (Free name) = free_rule name.now
 
+abbrev pub with_argument : App → Argument → App
+with_argument app argument = with_rule app (rule_for argument)
+
 abbrev pub plain_app : Text → App
 plain_app name = let app = new_app name in record app { top = record app.top { no_binary_name = true } }
 

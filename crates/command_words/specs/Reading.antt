@@ -1,5 +1,5 @@
 -- What a command's words come to: the crate's reading of the words behind the command, and values read from it.
-use Rattle.std.specs.Prelude.{◌≡◌, List, [], ◌∷◌, Option, None, Some, Result, Ok, Err, option_and_then}
+use Rattle.std.specs.Prelude.{◌≡◌, Bool, false, List, [], ◌∷◌, Option, None, Some, Result, Ok, Err, option_and_then}
 use Rattle.std.specs.Bool.{if◌then◌else◌}
 use Rattle.std.specs.Str.{bytes_eq}
 use Rattle.clap.specs.Words.{App, Kinds, Row, Text, fault_of, first_of, matches_of}
@@ -28,6 +28,11 @@ needed read (Some word) = read word
 abbrev pub free : {T : Type 0} → (Text → Option T) → T → Option Text → Option T
 free read default None = Some default
 free read default (Some word) = read word
+
+-- whether the first word is the command
+abbrev pub is_first : Text → List Text → Bool
+is_first command [] = false
+is_first command (word ∷ words) = bytes_eq word command
 
 -- the words behind the command, where the first word is that command
 abbrev pub behind : Text → List Text → Option (List Text)

@@ -1,9 +1,9 @@
 //! What a command's words are, and the crate's command for them.
 //! The same as rules of the crate stands in specs/Commands.antt.
 
-ghost use Rattle.std.specs.Prelude.{◌≡◌, false, fold, map, IfOk};
-ghost use Rattle.clap.specs.Words.{app_of, rule_of, with_rule};
-ghost use Rattle.command_words.specs.Commands.{plain_app, rule_for};
+ghost use Rattle.std.specs.Prelude.{◌≡◌, false, fold, IfOk};
+ghost use Rattle.clap.specs.Words.{app_of, rule_of};
+ghost use Rattle.command_words.specs.Commands.{plain_app, rule_for, with_argument};
 
 use clap::{Arg, Command};
 use std::alloc::{AllocError, Global};
@@ -44,7 +44,7 @@ pub(crate) fn with_arguments<'a>(
     command: Command<'a>,
     arguments: &[Argument],
 ) -> Result<Command<'a>, AllocError>
-    ensures app { IfOk result (λ c. app_of c ≡ fold with_rule (app_of command.entry) (map rule_for arguments.now)) }
+    ensures app { IfOk result (λ c. app_of c ≡ fold with_argument (app_of command.entry) arguments.now) }
 {
     let mut command = command;
     for argument in arguments {

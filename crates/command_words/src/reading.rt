@@ -5,7 +5,7 @@ ghost use Rattle.std.specs.Prelude.{◌≡◌, ◌≤◌, ◌<◌, ◌^◌, map,
 ghost use Rattle.std.specs.Option.{option_map};
 ghost use Rattle.std.specs.String.{string_bytes};
 ghost use Rattle.clap.specs.Words.{app_of, found_of, is_simple_and_free, rows_of};
-ghost use Rattle.command_words.specs.Reading.{behind, found_in, free, needed, word_of, Reads};
+ghost use Rattle.command_words.specs.Reading.{behind, found_in, is_first, free, needed, word_of, Reads};
 ghost use Rattle.command_words.specs.Values.{number_in, name_of, no_seed, seed_of};
 
 use crate::values::{is_name, read_number, read_seed};
@@ -13,11 +13,18 @@ use crate::words_error::{WordsError, error_of};
 use clap::{ArgMatches, Command};
 use seed_expand::Seed;
 
+/// Whether the first word is this command.
+pub fn is_command(words: &[String], command: &str) -> bool
+    ensures value { result ≡ is_first command.now (map string_bytes words.now) }
+{
+    !words.is_empty() && words[0].as_str() == command
+}
+
 /// The words behind a command, where the first word is that command.
 pub(crate) fn behind<'a>(words: &'a [String], command: &str) -> Option<&'a [String]>
     ensures value { option_map (λ rest. map string_bytes rest.now) result ≡ behind command.now (map string_bytes words.now) }
 {
-    if words.is_empty() || words[0].as_str() != command {
+    if !is_command(words, command) {
         return None;
     }
     Some(&words[1..])
