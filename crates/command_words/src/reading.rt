@@ -31,7 +31,10 @@ pub(crate) fn behind<'a>(words: &'a [String], command: &str) -> Option<&'a [Stri
 }
 
 /// What the crate finds in the words behind a command.
-pub(crate) fn found<'a>(command: Command<'a>, words: &'a [String]) -> Result<ArgMatches<'a>, WordsError>
+pub(crate) fn found<'a>(
+    command: Command<'a>,
+    words: &'a [String],
+) -> Result<ArgMatches<'a>, WordsError>
     requires simple { is_simple_and_free (app_of command) ≡ true }
     ensures reads { Reads (λ m. rows_of (found_of m)) (found_in (app_of command.entry) (map string_bytes words.now)) result }
 {
@@ -57,7 +60,12 @@ pub(crate) fn file_name<'a>(matches: &ArgMatches<'a>, name: &str) -> Option<&'a 
 }
 
 /// The number found under a name.
-pub(crate) fn needed_number(matches: &ArgMatches<'_>, name: &str, least: u64, most: u64) -> Option<u64>
+pub(crate) fn needed_number(
+    matches: &ArgMatches<'_>,
+    name: &str,
+    least: u64,
+    most: u64,
+) -> Option<u64>
     ensures value { result ≡ needed (number_in least most) (word_of name.now (rows_of (found_of matches.now))) }
     ensures within { IfSome result (λ number. (least ≤ number) × (number ≤ most)) }
 {
@@ -65,7 +73,13 @@ pub(crate) fn needed_number(matches: &ArgMatches<'_>, name: &str, least: u64, mo
 }
 
 /// The number found under a name, and where there is none the other.
-pub(crate) fn number_or(matches: &ArgMatches<'_>, name: &str, least: u64, most: u64, other: u64) -> Option<u64>
+pub(crate) fn number_or(
+    matches: &ArgMatches<'_>,
+    name: &str,
+    least: u64,
+    most: u64,
+    other: u64,
+) -> Option<u64>
     requires other { (least ≤ other) × (other ≤ most) }
     ensures value { result ≡ free (number_in least most) other (word_of name.now (rows_of (found_of matches.now))) }
     ensures within { IfSome result (λ number. (least ≤ number) × (number ≤ most)) }

@@ -1,13 +1,13 @@
 -- How `eval` and `gen` keep their promise, and which command the first word names.
 use Rattle.std.proofs.Common.{◌≡◌, ◌≤◌, ◌⊎◌, inl, inr, ℕ, Bool, true, false, List, Option, None, Some, sym, ap, subst, ◌∙◌, arith}
 use Rattle.std.specs.Prelude.{IfSome, if◌then◌else◌, codes}
-use Rattle.std.specs.Str.{bytes_eq}
 use Rattle.std.specs.FinMap.{get}
 use Rattle.shelf_io.specs.Faults.{Rose}
 use Rattle.shelf_io.specs.Files.{Files}
 use Rattle.shelf_io.specs.Seen.{Outside}
 use Rattle.shelf_io.specs.Texts.{GrewWithin}
-use Rattle.command_words.specs.Settings.{EvalSettings, GenSettings, eval_words, gen_words, word_at}
+use Rattle.command_words.specs.Reading.{is_first}
+use Rattle.command_words.specs.Settings.{EvalSettings, GenSettings, eval_words, gen_words}
 use Rattle.poplar_top.specs.declared.stop.Stop.{Stop}
 use Rattle.poplar_top.specs.declared.stop.Stop.TheVariants as stops
 use Rattle.poplar_top.specs.Commands.{command_of, generates, runs, evaluates}
@@ -29,13 +29,13 @@ use Rattle.poplar_top.proofs.TopSteps.{eval_status}
 -- ---- the first word
 
 -- the first word names `gen`, or neither, where it was compared so
-pub names_gen : (words : List (List ℕ)) (is_gen : Bool) → is_gen ≡ bytes_eq (word_at words 0) (codes "gen") → is_gen ≡ true → command_of words ≡ generates
-names_gen words is_gen g same = ap (λ b. if b then generates else (if bytes_eq (word_at words 0) (codes "run") then runs else evaluates)) (sym g ∙ same)
+pub names_gen : (words : List (List ℕ)) (is_gen : Bool) → is_gen ≡ is_first (codes "gen") words → is_gen ≡ true → command_of words ≡ generates
+names_gen words is_gen g same = ap (λ b. if b then generates else (if is_first (codes "run") words then runs else evaluates)) (sym g ∙ same)
 
-pub names_neither : (words : List (List ℕ)) (is_gen is_run : Bool) → is_gen ≡ bytes_eq (word_at words 0) (codes "gen") → is_run ≡ bytes_eq (word_at words 0) (codes "run")
+pub names_neither : (words : List (List ℕ)) (is_gen is_run : Bool) → is_gen ≡ is_first (codes "gen") words → is_run ≡ is_first (codes "run") words
     → is_gen ≡ false → is_run ≡ false → command_of words ≡ evaluates
 names_neither words is_gen is_run g r other another =
-    ap (λ b. if b then generates else (if bytes_eq (word_at words 0) (codes "run") then runs else evaluates)) (sym g ∙ other)
+    ap (λ b. if b then generates else (if is_first (codes "run") words then runs else evaluates)) (sym g ∙ other)
     ∙ ap (λ b. if b then runs else evaluates) (sym r ∙ another)
 
 -- ---- the promise of `eval`

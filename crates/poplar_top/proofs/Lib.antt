@@ -5,6 +5,7 @@ pub mod GenSteps
 pub mod FileSteps
 pub mod MeetSteps
 pub mod CommandSteps
+pub mod UnreadSteps
 pub mod RunSteps
 pub mod RunLaws
 pub mod StatusLaws

@@ -21,7 +21,7 @@ use Rattle.file_run.specs.Hearings.{heard_ending}
 use Rattle.file_run.specs.Keeps.{RunKeeps}
 use Rattle.file_run.specs.Sendings.{SentWhole, SentFront, SentBy, IsUnsent}
 use Rattle.file_run.proofs.WalkSteps.{front}
-use Rattle.command_words.specs.RunSettings.{RunSettings, run_words}
+use Rattle.command_words.specs.Settings.{RunSettings, run_words}
 use Rattle.poplar_top.specs.declared.stop.Stop.TheVariants as stops
 use Rattle.poplar_top.specs.Outcomes.Outcome.{texts, untold_run, unheard}
 use Rattle.poplar_top.specs.RunOutcomes.{run_refused, answered, unheard_answer, rules_asked, files_asked, run_told, run_settled, go_together, run_walks}
@@ -290,7 +290,7 @@ six : {status : ℕ} {K : Type 0} → Wrote status K → status ≡ 6 → ⊥
 six wrote = wrote_other 6 (λ n. omega (arith, n)) (λ n. omega (arith, n)) (λ n. omega (arith, n)) wrote
 
 -- where nothing passed
-unsent_sends : (sets : Settings) (reports : List Report) (before after : LinkSeen) (status : ℕ) → after.talk ≡ before.talk
+pub unsent_sends : (sets : Settings) (reports : List Report) (before after : LinkSeen) (status : ℕ) → after.talk ≡ before.talk
     → (status ≡ 3) ⊎ ((status ≡ 4) ⊎ ((status ≡ 6) ⊎ (status ≡ 8))) → WalkSends sets reports before after status
 unsent_sends sets reports before after status same is = record {
   whole = λ h. absurd (at is h);

@@ -1,12 +1,11 @@
 -- Which command the words name, and what it comes to, sends and finds.
 use Rattle.std.specs.Prelude.{◌≡◌, ℕ, Bool, false, List, Option, codes}
 use Rattle.std.specs.Bool.{if◌then◌else◌}
-use Rattle.std.specs.Str.{bytes_eq}
 use Rattle.shelf_io.specs.Files.{Files}
 use Rattle.shelf_io.specs.Seen.{LinkSeen, Outside}
 use Rattle.file_run.specs.Answers.{Ending}
-use Rattle.command_words.specs.Settings.{word_at}
-use Rattle.command_words.specs.RunSettings.{run_words}
+use Rattle.command_words.specs.Reading.{is_first}
+use Rattle.command_words.specs.Settings.{run_words}
 use Rattle.poplar_top.specs.Outcomes.{Outcome, eval_outcome, gen_outcome}
 use Rattle.poplar_top.specs.RunOutcomes.{run_outcome, run_walks}
 use Rattle.poplar_top.specs.RunLinks.{RunSends, RunFinds}
@@ -20,8 +19,8 @@ pub data Command : Type 0 where
 -- the command that the first word names
 abbrev pub command_of : List (List ℕ) → Command
 command_of words =
-    if bytes_eq (word_at words 0) (codes "gen") then generates
-    else if bytes_eq (word_at words 0) (codes "run") then runs
+    if is_first (codes "gen") words then generates
+    else if is_first (codes "run") words then runs
     else evaluates
 
 -- what the words and the told files come to, where a walk ends this way; with no way, the link does not tell

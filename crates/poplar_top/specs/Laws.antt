@@ -7,7 +7,7 @@ use Rattle.walk_definitions.specs.Walk.{Settings, Heavy, done, capped, walk}
 use Rattle.pair_run.specs.Keeps.{IsOwnEnd}
 use Rattle.answer_text.specs.AnswerText.{answer_text, sealed_line}
 use Rattle.file_run.specs.Beginnings.{Both, settings_for, batch_for, refused_for}
-use Rattle.command_words.specs.RunSettings.{RunSettings}
+use Rattle.command_words.specs.Settings.{RunSettings}
 use Rattle.poplar_top.specs.declared.refusal.Refusal.{Refusal}
 use Rattle.poplar_top.specs.declared.refusal.Refusal.TheVariants.{Walk}
 use Rattle.poplar_top.specs.declared.walk_refusal.WalkRefusal.TheVariants.{Cap}

@@ -9,7 +9,7 @@ ghost use Rattle.poplar_top.specs.Keeps.{KeepsOf, Keeps};
 
 use crate::run::stop_of_run;
 use crate::stop::{stop_of_eval, stop_of_gen};
-use crate::telling::{tell, tell_stop, write_texts};
+use crate::telling::{tell_stop, tell_unread, write_texts};
 use command_words::{is_command, read_eval, read_gen, read_run};
 use file_eval::eval_texts;
 use file_gen::make_files;
@@ -19,9 +19,6 @@ use shelf_io::{Gate, Link, Shelf, Sink};
 use std::alloc::Global;
 use std::sync::Wait;
 use std::thread::Threads;
-
-/// The line that is told where the words give no settings.
-const USAGE: &[u8; 50] = b"usage: poplar eval, gen, run, find, make, upgrade\n";
 
 /// `eval SIDE PREFIX FILE`, the command first: the value of each report of a side's share file at a prefix, one line each on out,
 /// and a line on err for each malformed record. The statuses: 0, the whole answer was written; 2, the words give no settings; 3,
@@ -41,9 +38,9 @@ pub fn eval_file<H: Shelf, K: Sink, E: Sink>(
         (outside_but_link H.Shelf K.Sink E.Sink shelf.old out.old err.old link)
         (outside_but_link H.Shelf K.Sink E.Sink shelf.new out.new err.new link) result }
 {
-    let Some(asked) = read_eval(words) else {
-        tell(err, USAGE);
-        return 2;
+    let asked = match read_eval(alloc, words) {
+        Ok(asked) => asked,
+        Err(error) => return tell_unread(err, error),
     };
     match eval_texts(alloc, asked.side, &asked.prefix, asked.file, shelf) {
         Ok(written) => write_texts(out, err, &written.out, &written.err),
@@ -68,9 +65,9 @@ pub fn gen_files<H: Shelf, E: Sink>(
         (shelf_and_err H.Shelf E.Sink shelf.old err.old out link)
         (shelf_and_err H.Shelf E.Sink shelf.new err.new out link) result }
 {
-    let Some(asked) = read_gen(words) else {
-        tell(err, USAGE);
-        return 2;
+    let asked = match read_gen(alloc, words) {
+        Ok(asked) => asked,
+        Err(error) => return tell_unread(err, error),
     };
     let settings = PairSettings {
         width: asked.width,
@@ -105,15 +102,15 @@ fn run_command<R: Threads + Wait + Sync, H: Shelf, K: Sink, E: Sink, L: Link, G:
         (outside H.Shelf K.Sink E.Sink L.Link shelf.old out.old err.old link.old)
         (outside H.Shelf K.Sink E.Sink L.Link shelf.new out.new err.new link.new) result }
 {
-    let Some(asked) = read_run(words) else {
-        tell(err, USAGE);
-        return 2;
+    let asked = match read_run(alloc, words) {
+        Ok(asked) => asked,
+        Err(error) => return tell_unread(err, error),
     };
     let rules = RunRules {
         threshold: asked.threshold,
-        uploaders: asked.uploaders,
-        cap: asked.cap,
-        verify: asked.verify,
+        uploaders: asked.options.uploaders,
+        cap: asked.options.cap,
+        verify: asked.options.verify,
     };
     match run_files(rt, alloc, asked.zero, asked.one, &rules, shelf, link, gate) {
         Ok(texts) => write_texts(out, err, &texts.out, &texts.err),

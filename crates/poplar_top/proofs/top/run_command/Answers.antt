@@ -1,7 +1,7 @@
 use Rattle.std.proofs.Common.{◌≡◌, map, refl, sym, subst}
 use Rattle.std.specs.String.{string_bytes}
 use Rattle.shelf_io.specs.Texts.{GrewWithin}
-use Rattle.command_words.specs.RunSettings.{RunSettings}
+use Rattle.command_words.specs.Settings.{RunSettings}
 use Rattle.poplar_top.specs.Commands.{runs}
 use Rattle.poplar_top.specs.Keeps.{KeepsOf}
 use Rattle.poplar_top.specs.Outcomes.Outcome.{texts}

@@ -1,0 +1,140 @@
+-- The promise of each command where its words are not read: they give no settings, or memory was wanting for them.
+use Rattle.std.proofs.Common.{◌≡◌, ◌≤◌, inl, inr, ℕ, Bool, List, Option, None, Some, refl, sym, subst, ap, arith}
+use Rattle.std.specs.Prelude.{Result, Ok, Err}
+use Rattle.shelf_io.specs.Files.{Files}
+use Rattle.shelf_io.specs.Seen.{LinkSeen, SinkSeen, Outside}
+use Rattle.shelf_io.specs.Texts.{GrewWithin}
+use Rattle.file_run.specs.declared.errors.RunError.{RunError}
+use Rattle.file_run.specs.Beginnings.{Both}
+use Rattle.command_words.specs.declared.words_error.WordsError.{WordsError}
+use Rattle.command_words.specs.declared.words_error.WordsError.TheVariants.{Usage, Memory}
+use Rattle.command_words.specs.Settings.{RunSettings, eval_words, gen_words, run_words}
+use Rattle.poplar_top.specs.declared.stop.Stop.TheVariants as stops
+use Rattle.poplar_top.specs.Commands.{generates, runs, evaluates}
+use Rattle.poplar_top.specs.Keeps.{Meets, KeepsOf}
+use Rattle.poplar_top.specs.Outcomes.{Outcome, eval_settled, gen_settled}
+use Rattle.poplar_top.specs.Outcomes.Outcome.{usage}
+use Rattle.poplar_top.specs.RunOutcomes.{files_asked, run_settled, run_walks}
+use Rattle.poplar_top.specs.RunLinks.{FilesSend, RunSends, FilesFind, RunFinds}
+use Rattle.poplar_top.specs.Statuses.{fault_line}
+use Rattle.poplar_top.specs.Stops.{words_status}
+use Rattle.poplar_top.proofs.KeptSteps.{shelf_kept}
+use Rattle.poplar_top.proofs.MeetSteps.{is_later, still_later, may_stop, stop_meets}
+use Rattle.poplar_top.proofs.RunSteps.{unsent_sends}
+
+-- where the words are usage there are no settings
+abbrev pub GivesNone : {S : Type 0} → Option S → WordsError → Type 0
+GivesNone given Usage = given ≡ None
+GivesNone given Memory = Unit {0}
+
+-- and the outcome is usage
+abbrev IsUsage : Outcome → WordsError → Type 0
+IsUsage o Usage = o ≡ usage
+IsUsage o Memory = Unit {0}
+
+usage_is : {S : Type 0} (outcome : Option S → Outcome) (given : Option S) (error : WordsError) → outcome None ≡ usage → GivesNone given error
+    → IsUsage (outcome given) error
+usage_is outcome given Usage is none = subst (λ s. outcome s ≡ usage) (sym none) is
+usage_is outcome given Memory is none = tt
+
+unread_meets : (o : Outcome) (asked : Bool) (before after : Outside) (error : WordsError) → IsUsage o error → after.out ≡ before.out
+    → GrewWithin before.err.taken after.err.taken (fault_line (words_status error)) → after.shelf.files ≡ before.shelf.files
+    → Meets o asked before after (words_status error)
+unread_meets o asked before after Usage is same line kept =
+    subst (λ o. Meets o asked before after 2) (sym is)
+    (record { status = inl refl; out = ap (λ (s : SinkSeen). s.taken) same; err = line; order = tt; shelf = kept })
+unread_meets o asked before after Memory is same line kept =
+    stop_meets o asked before after stops.Memory (may_stop o stops.Memory tt) (inr (inr (inr (inr refl)))) same line
+    (shelf_kept o 8 before.shelf.files after.shelf.files (λ e. omega (arith, e)) kept)
+
+-- such a status is neither 0 nor 9
+not_zero : (error : WordsError) → words_status error ≡ 0 → ⊥
+not_zero Usage e = omega (arith, e)
+not_zero Memory e = omega (arith, e)
+
+not_nine : (error : WordsError) → words_status error ≡ 9 → ⊥
+not_nine Usage e = omega (arith, e)
+not_nine Memory e = omega (arith, e)
+
+-- ---- what passes in `run`, and what it finds: nothing
+
+files_send : (settings : RunSettings) (found : Result Both RunError) (before after : LinkSeen) → after.talk ≡ before.talk
+    → FilesSend settings found before after 8
+files_send settings (Ok both) before after same = unsent_sends _ _ before after 8 same (inr (inr (inr refl)))
+files_send settings (Err e) before after same = same
+
+memory_sends : (given : Option RunSettings) (files : Option Files) (before after : LinkSeen) → after.talk ≡ before.talk
+    → RunSends given files before after 8
+memory_sends None files before after same = same
+memory_sends (Some settings) None before after same = λ _. same
+memory_sends (Some settings) (Some held) before after same = files_send settings (files_asked settings held) before after same
+
+unread_sends : (given : Option RunSettings) (files : Option Files) (before after : LinkSeen) (error : WordsError) → GivesNone given error
+    → after.talk ≡ before.talk → RunSends given files before after (words_status error)
+unread_sends given files before after Usage none same = subst (λ s. RunSends s files before after 2) (sym none) same
+unread_sends given files before after Memory none same = memory_sends given files before after same
+
+files_find : (settings : RunSettings) (found : Result Both RunError) (before after : Outside) (status : ℕ) → (status ≡ 0 → ⊥)
+    → FilesFind settings found before after status
+files_find settings (Ok both) before after status other = λ zero. absurd (other zero)
+files_find settings (Err e) before after status other = tt
+
+unread_finds : (given : Option RunSettings) (before after : Outside) (status : ℕ) → (status ≡ 0 → ⊥) → RunFinds given before after status
+unread_finds None before after status other = tt
+unread_finds (Some settings) before after status other = told before.shelf.files
+  where
+    told : (files : Option Files) → Rattle.poplar_top.specs.RunLinks.FindsIn settings files before after status
+    told None = tt
+    told (Some held) = files_find settings (files_asked settings held) before after status other
+
+-- ---- the promises
+
+module _ (words : List (List ℕ)) (before after : Outside) (error : WordsError) (same : after.link ≡ before.link) (still : after.out ≡ before.out)
+    (shelf : after.shelf ≡ before.shelf) (later : before.err.faults ≤ after.err.faults)
+    (line : GrewWithin before.err.taken after.err.taken (fault_line (words_status error))) where
+  kept : after.shelf.files ≡ before.shelf.files
+  kept = ap (λ s. s.files) shelf
+
+  shelf_later : before.shelf.faults ≤ after.shelf.faults
+  shelf_later = subst (λ s. before.shelf.faults ≤ s.faults) (sym shelf) (omega arith)
+
+  pub unread_eval : GivesNone (eval_words words) error → KeepsOf evaluates words before after (words_status error)
+  unread_eval none =
+      let is = usage_is (λ s. eval_settled s before.shelf.files) (eval_words words) error refl none in
+      let meets = unread_meets (eval_settled (eval_words words) before.shelf.files) false before after error is still line kept in record {
+        heard = meets;
+        sends = same;
+        kept = kept;
+        later = is_later before after same shelf_later (still_later before.out after.out still) later;
+        truly = λ ready. meets;
+        agreed = λ ready. not_nine error;
+        finds = λ ready. tt;
+      }
+
+  pub unread_gen : GivesNone (gen_words words) error → KeepsOf generates words before after (words_status error)
+  unread_gen none =
+      let is = usage_is (λ s. gen_settled s before.shelf.files) (gen_words words) error refl none in
+      let meets = unread_meets (gen_settled (gen_words words) before.shelf.files) false before after error is still line kept in record {
+        heard = meets;
+        sends = same;
+        kept = tt;
+        later = is_later before after same shelf_later (still_later before.out after.out still) later;
+        truly = λ ready. meets;
+        agreed = λ ready. not_nine error;
+        finds = λ ready. tt;
+      }
+
+  pub unread_run : GivesNone (run_words words) error → KeepsOf runs words before after (words_status error)
+  unread_run none =
+      let walks = run_walks (run_words words) before.shelf.files in
+      let meets = λ ending.
+          unread_meets (run_settled ending (run_words words) before.shelf.files) walks before after error
+          (usage_is (λ s. run_settled ending s before.shelf.files) (run_words words) error refl none) still line kept in record {
+        heard = meets _;
+        sends = unread_sends (run_words words) before.shelf.files before.link after.link error none (ap (λ (l : LinkSeen). l.talk) same);
+        kept = kept;
+        later = is_later before after same shelf_later (still_later before.out after.out still) later;
+        truly = λ ready. meets _;
+        agreed = λ ready. not_nine error;
+        finds = λ ready. unread_finds (run_words words) before after (words_status error) (not_zero error);
+      }
