@@ -1,13 +1,18 @@
 -- The promise of each command where its words are not read: they give no settings, or memory was wanting for them.
-use Rattle.std.proofs.Common.{◌≡◌, ◌≤◌, inl, inr, ℕ, Bool, List, Option, None, Some, refl, sym, subst, ap, arith}
+use Rattle.std.proofs.Common.{◌≡◌, ◌≤◌, inl, inr, ℕ, Bool, false, List, Option, None, Some, refl, sym, subst, ap, arith}
 use Rattle.std.specs.Prelude.{Result, Ok, Err}
 use Rattle.shelf_io.specs.Files.{Files}
 use Rattle.shelf_io.specs.Seen.{LinkSeen, SinkSeen, Outside}
 use Rattle.shelf_io.specs.Texts.{GrewWithin}
 use Rattle.file_run.specs.declared.errors.RunError.{RunError}
+use Rattle.walk_definitions.specs.Walk.{walk}
+use Rattle.file_run.specs.Answers.{Ending}
+use Rattle.file_run.specs.Hearings.{heard_ending}
 use Rattle.file_run.specs.Beginnings.{Both}
 use Rattle.command_words.specs.declared.words_error.WordsError.{WordsError}
 use Rattle.command_words.specs.declared.words_error.WordsError.TheVariants.{Usage, Memory}
+use Rattle.command_words.specs.Reading.{Reads}
+use Rattle.command_words.specs.Seen.{eval_seen, gen_seen, run_seen}
 use Rattle.command_words.specs.Settings.{RunSettings, eval_words, gen_words, run_words}
 use Rattle.poplar_top.specs.declared.stop.Stop.TheVariants as stops
 use Rattle.poplar_top.specs.Commands.{generates, runs, evaluates}
@@ -89,17 +94,25 @@ unread_finds (Some settings) before after status other = told before.shelf.files
 
 -- ---- the promises
 
+-- an error of a reading says whether there are settings
+none_read : {A S : Type 0} (seen : A → S) (asked : Option S) (error : WordsError) → Reads seen asked (Err error) → GivesNone asked error
+none_read seen asked Usage reads = reads
+none_read seen asked Memory reads = tt
+
 module _ (words : List (List ℕ)) (before after : Outside) (error : WordsError) (same : after.link ≡ before.link) (still : after.out ≡ before.out)
-    (shelf : after.shelf ≡ before.shelf) (later : before.err.faults ≤ after.err.faults)
-    (line : GrewWithin before.err.taken after.err.taken (fault_line (words_status error))) where
+    (shelf : after.shelf ≡ before.shelf) (later : before.err.faults ≤ after.err.faults) (status : ℕ) (is_status : status ≡ words_status error)
+    (told : GrewWithin before.err.taken after.err.taken (fault_line status)) where
+  line : GrewWithin before.err.taken after.err.taken (fault_line (words_status error))
+  line = subst (λ n. GrewWithin before.err.taken after.err.taken (fault_line n)) is_status told
+
   kept : after.shelf.files ≡ before.shelf.files
   kept = ap (λ s. s.files) shelf
 
   shelf_later : before.shelf.faults ≤ after.shelf.faults
   shelf_later = subst (λ s. before.shelf.faults ≤ s.faults) (sym shelf) (omega arith)
 
-  pub unread_eval : GivesNone (eval_words words) error → KeepsOf evaluates words before after (words_status error)
-  unread_eval none =
+  keeps_eval : GivesNone (eval_words words) error → KeepsOf evaluates words before after (words_status error)
+  keeps_eval none =
       let is = usage_is (λ s. eval_settled s before.shelf.files) (eval_words words) error refl none in
       let meets = unread_meets (eval_settled (eval_words words) before.shelf.files) false before after error is still line kept in record {
         heard = meets;
@@ -111,8 +124,8 @@ module _ (words : List (List ℕ)) (before after : Outside) (error : WordsError)
         finds = λ ready. tt;
       }
 
-  pub unread_gen : GivesNone (gen_words words) error → KeepsOf generates words before after (words_status error)
-  unread_gen none =
+  keeps_gen : GivesNone (gen_words words) error → KeepsOf generates words before after (words_status error)
+  keeps_gen none =
       let is = usage_is (λ s. gen_settled s before.shelf.files) (gen_words words) error refl none in
       let meets = unread_meets (gen_settled (gen_words words) before.shelf.files) false before after error is still line kept in record {
         heard = meets;
@@ -124,17 +137,29 @@ module _ (words : List (List ℕ)) (before after : Outside) (error : WordsError)
         finds = λ ready. tt;
       }
 
-  pub unread_run : GivesNone (run_words words) error → KeepsOf runs words before after (words_status error)
-  unread_run none =
+  keeps_run : GivesNone (run_words words) error → KeepsOf runs words before after (words_status error)
+  keeps_run none =
       let walks = run_walks (run_words words) before.shelf.files in
-      let meets = λ ending.
-          unread_meets (run_settled ending (run_words words) before.shelf.files) walks before after error
-          (usage_is (λ s. run_settled ending s before.shelf.files) (run_words words) error refl none) still line kept in record {
-        heard = meets _;
+      let meets = λ (ending : Option Ending).
+      unread_meets (run_settled ending (run_words words) before.shelf.files) walks before after error
+      (usage_is (λ s. run_settled ending s before.shelf.files) (run_words words) error refl none) still line kept in record {
+        heard = meets (heard_ending before.link.talk after.link.talk);
         sends = unread_sends (run_words words) before.shelf.files before.link after.link error none (ap (λ (l : LinkSeen). l.talk) same);
         kept = kept;
         later = is_later before after same shelf_later (still_later before.out after.out still) later;
-        truly = λ ready. meets _;
+        truly = λ ready. meets (Some walk);
         agreed = λ ready. not_nine error;
         finds = λ ready. unread_finds (run_words words) before after (words_status error) (not_zero error);
       }
+
+  pub unread_eval : Reads eval_seen (eval_words words) (Err error) → KeepsOf evaluates words before after status
+  unread_eval reads =
+      subst (λ n. KeepsOf evaluates words before after n) (sym is_status) (keeps_eval (none_read eval_seen (eval_words words) error reads))
+
+  pub unread_gen : Reads gen_seen (gen_words words) (Err error) → KeepsOf generates words before after status
+  unread_gen reads =
+      subst (λ n. KeepsOf generates words before after n) (sym is_status) (keeps_gen (none_read gen_seen (gen_words words) error reads))
+
+  pub unread_run : Reads run_seen (run_words words) (Err error) → KeepsOf runs words before after status
+  unread_run reads =
+      subst (λ n. KeepsOf runs words before after n) (sym is_status) (keeps_run (none_read run_seen (run_words words) error reads))
