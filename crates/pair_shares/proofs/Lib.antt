@@ -1,0 +1,4 @@
+pub mod IdOrder
+pub mod MadeLists
+pub mod MadeBatch
+pub mod MadeWalk

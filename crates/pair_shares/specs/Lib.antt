@@ -1,0 +1,2 @@
+pub mod MadeReports
+pub mod Laws
