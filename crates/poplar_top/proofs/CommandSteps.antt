@@ -10,7 +10,7 @@ use Rattle.command_words.specs.Reading.{is_first}
 use Rattle.command_words.specs.Settings.{EvalSettings, GenSettings, eval_words, gen_words}
 use Rattle.poplar_top.specs.declared.stop.Stop.{Stop}
 use Rattle.poplar_top.specs.declared.stop.Stop.TheVariants as stops
-use Rattle.poplar_top.specs.Commands.{command_of, generates, runs, evaluates}
+use Rattle.poplar_top.specs.Commands.{Command, command_of, generates, runs, finds, makes, evaluates}
 use Rattle.poplar_top.specs.Keeps.{Meets, KeepsOf}
 use Rattle.pair_files.specs.Made.{zero_text, one_text}
 use Rattle.file_gen.specs.declared.errors.GenError.{GenError}
@@ -28,15 +28,40 @@ use Rattle.poplar_top.proofs.TopSteps.{eval_status}
 
 -- ---- the first word
 
--- the first word names `gen`, or neither, where it was compared so
-pub names_gen : (words : List (List ℕ)) (is_gen : Bool) → is_gen ≡ is_first (codes "gen") words → is_gen ≡ true → command_of words ≡ generates
-names_gen words is_gen g same = ap (λ b. if b then generates else (if is_first (codes "run") words then runs else evaluates)) (sym g ∙ same)
+-- which command the first word names, by comparing it with one after another
+abbrev by_words : (is_gen is_run is_find is_make : Bool) → Command
+by_words is_gen is_run is_find is_make =
+    if is_gen then generates else if is_run then runs else if is_find then finds else if is_make then makes else evaluates
 
-pub names_neither : (words : List (List ℕ)) (is_gen is_run : Bool) → is_gen ≡ is_first (codes "gen") words → is_run ≡ is_first (codes "run") words
-    → is_gen ≡ false → is_run ≡ false → command_of words ≡ evaluates
-names_neither words is_gen is_run g r other another =
-    ap (λ b. if b then generates else (if is_first (codes "run") words then runs else evaluates)) (sym g ∙ other)
-    ∙ ap (λ b. if b then runs else evaluates) (sym r ∙ another)
+module _ (words : List (List ℕ)) where
+  pub names_gen : (is_gen : Bool) → is_gen ≡ is_first (codes "gen") words → is_gen ≡ true → command_of words ≡ generates
+  names_gen is_gen g yes =
+      ap (λ b. by_words b (is_first (codes "run") words) (is_first (codes "find") words) (is_first (codes "make") words)) (sym g ∙ yes)
+
+  module _ (is_gen : Bool) (g : is_gen ≡ is_first (codes "gen") words) (no_gen : is_gen ≡ false) (is_run : Bool)
+      (r : is_run ≡ is_first (codes "run") words) where
+    not_gen : command_of words ≡ by_words false (is_first (codes "run") words) (is_first (codes "find") words) (is_first (codes "make") words)
+    not_gen = ap (λ b. by_words b (is_first (codes "run") words) (is_first (codes "find") words) (is_first (codes "make") words)) (sym g ∙ no_gen)
+
+    pub names_run : is_run ≡ true → command_of words ≡ runs
+    names_run yes = not_gen ∙ ap (λ b. by_words false b (is_first (codes "find") words) (is_first (codes "make") words)) (sym r ∙ yes)
+
+    module _ (no_run : is_run ≡ false) (is_find : Bool) (f : is_find ≡ is_first (codes "find") words) where
+      not_run : command_of words ≡ by_words false false (is_first (codes "find") words) (is_first (codes "make") words)
+      not_run = not_gen ∙ ap (λ b. by_words false b (is_first (codes "find") words) (is_first (codes "make") words)) (sym r ∙ no_run)
+
+      pub names_find : is_find ≡ true → command_of words ≡ finds
+      names_find yes = not_run ∙ ap (λ b. by_words false false b (is_first (codes "make") words)) (sym f ∙ yes)
+
+      module _ (no_find : is_find ≡ false) (is_make : Bool) (m : is_make ≡ is_first (codes "make") words) where
+        not_find : command_of words ≡ by_words false false false (is_first (codes "make") words)
+        not_find = not_run ∙ ap (λ b. by_words false false b (is_first (codes "make") words)) (sym f ∙ no_find)
+
+        pub names_make : is_make ≡ true → command_of words ≡ makes
+        names_make yes = not_find ∙ ap (λ b. by_words false false false b) (sym m ∙ yes)
+
+        pub names_none : is_make ≡ false → command_of words ≡ evaluates
+        names_none no = not_find ∙ ap (λ b. by_words false false false b) (sym m ∙ no)
 
 -- ---- the promise of `eval`
 

@@ -7,5 +7,6 @@ pub mod MeetSteps
 pub mod CommandSteps
 pub mod UnreadSteps
 pub mod RunSteps
+pub mod FindSteps
 pub mod RunLaws
 pub mod StatusLaws

@@ -13,7 +13,7 @@ use Rattle.poplar_top.specs.declared.refusal.Refusal.TheVariants.{Walk}
 use Rattle.poplar_top.specs.declared.walk_refusal.WalkRefusal.TheVariants.{Cap}
 use Rattle.poplar_top.specs.RunOutcomes.{rules_asked, run_files_outcome}
 use Rattle.poplar_top.specs.Outcomes.{Outcome}
-use Rattle.poplar_top.specs.Outcomes.Outcome.{usage, refusal, texts, writes, untold_eval, untold_gen, untold_run, unheard}
+use Rattle.poplar_top.specs.Outcomes.Outcome.{usage, refusal, texts, writes, untold_eval, untold_gen, untold_run, untold_find, unheard}
 use Rattle.poplar_top.specs.Refusals.{status_of}
 use Rattle.poplar_top.specs.Statuses.{Stands, asks_shelf, asks_sinks}
 
@@ -22,6 +22,7 @@ abbrev pub IsTold : Outcome → Type 0
 IsTold untold_eval = ⊥
 IsTold untold_gen = ⊥
 IsTold untold_run = ⊥
+IsTold untold_find = ⊥
 IsTold unheard = ⊥
 IsTold usage = Unit {0}
 IsTold (refusal r) = Unit {0}

@@ -3,6 +3,7 @@
 #![tactic(auto)]
 
 pub mod laws;
+mod find;
 mod refusal;
 mod run;
 mod stop;

@@ -3,15 +3,18 @@
 
 ghost use Rattle.std.specs.Prelude.{map};
 ghost use Rattle.std.specs.String.{string_bytes};
-ghost use Rattle.shelf_io.specs.Seen.{LinkSeen, SinkSeen, outside, outside_but_link, shelf_and_err};
-ghost use Rattle.poplar_top.specs.Commands.{generates, runs, evaluates};
+ghost use Rattle.shelf_io.specs.Seen.{LinkSeen, ShelfSeen, SinkSeen, outside, outside_but_link, shelf_and_err};
+ghost use Rattle.poplar_top.specs.FindLinks.{outside_but_shelf};
+ghost use Rattle.poplar_top.specs.Commands.{generates, runs, finds, makes, evaluates};
 ghost use Rattle.poplar_top.specs.Keeps.{KeepsOf, Keeps};
 
+use crate::find::stop_of_find;
 use crate::run::stop_of_run;
 use crate::stop::{stop_of_eval, stop_of_gen};
 use crate::telling::{tell_stop, tell_unread, write_texts};
-use command_words::{is_command, read_eval, read_gen, read_run};
+use command_words::{is_command, read_eval, read_find, read_gen, read_make, read_run};
 use file_eval::eval_texts;
+use file_find::{FindRules, find_strings, make_walk};
 use file_gen::make_files;
 use file_run::{RunRules, run_files};
 use pair_files::PairSettings;
@@ -118,6 +121,79 @@ fn run_command<R: Threads + Wait + Sync, H: Shelf, K: Sink, E: Sink, L: Link, G:
     }
 }
 
+// `find`, the command first: the frequent strings of a strings file, by a walk over the link.
+fn find_command<R: Threads + Wait + Sync, H: Shelf, K: Sink, E: Sink, L: Link, G: Gate>(
+    rt: &R,
+    alloc: Global,
+    words: &[String],
+    shelf: &mut H,
+    out: &mut K,
+    err: &mut E,
+    link: &mut L,
+    gate: &G,
+) -> u8
+    ensures { KeepsOf finds (map string_bytes words.now)
+        (outside H.Shelf K.Sink E.Sink L.Link shelf.old out.old err.old link.old)
+        (outside H.Shelf K.Sink E.Sink L.Link shelf.new out.new err.new link.new) result }
+{
+    let asked = match read_find(alloc, words) {
+        Ok(asked) => asked,
+        Err(error) => return tell_unread(err, error),
+    };
+    let rules = FindRules {
+        width: asked.width,
+        threshold: asked.threshold,
+        master: asked.master,
+        tag: asked.tag,
+        workers: asked.options.workers,
+        uploaders: asked.options.uploaders,
+        cap: asked.options.cap,
+        cache: asked.options.cache,
+        verify: asked.options.verify,
+        drill: asked.options.drill,
+    };
+    match find_strings(rt, alloc, asked.strings, &rules, shelf, link, gate) {
+        Ok(texts) => write_texts(out, err, &texts.out, &texts.err),
+        Err(error) => tell_stop(alloc, err, stop_of_find(error)),
+    }
+}
+
+// `make`, the command first: how many strings of the workload are frequent, by a walk over the link. The shelf is not given.
+fn make_command<R: Threads + Wait + Sync, K: Sink, E: Sink, L: Link, G: Gate>(
+    rt: &R,
+    alloc: Global,
+    words: &[String],
+    out: &mut K,
+    err: &mut E,
+    link: &mut L,
+    gate: &G,
+) -> u8
+    ensures { (shelf : ShelfSeen) → KeepsOf makes (map string_bytes words.now)
+        (outside_but_shelf K.Sink E.Sink L.Link shelf out.old err.old link.old)
+        (outside_but_shelf K.Sink E.Sink L.Link shelf out.new err.new link.new) result }
+{
+    let asked = match read_make(alloc, words) {
+        Ok(asked) => asked,
+        Err(error) => return tell_unread(err, error),
+    };
+    let rules = FindRules {
+        width: asked.width,
+        threshold: asked.threshold,
+        master: asked.master,
+        tag: 0,
+        workers: asked.options.workers,
+        uploaders: asked.options.uploaders,
+        cap: asked.options.cap,
+        cache: asked.options.cache,
+        verify: asked.options.verify,
+        drill: asked.options.drill,
+    };
+    match make_walk(rt, alloc, asked.reports, &rules, link, gate) {
+        Ok(texts) => write_texts(out, err, &texts.out, &texts.err),
+        Err(error) => tell_stop(alloc, err, stop_of_find(error)),
+    }
+}
+
 /// The program: the words behind its name, a shelf for its files, sinks for its output and its lines, and the link and the gate
 /// that a walk uses. The first word is the command: `eval`, `gen` or `run`; every other is usage.
 ///
@@ -153,6 +229,10 @@ pub fn poplar<R: Threads + Wait + Sync, H: Shelf, K: Sink, E: Sink, L: Link, G: 
         gen_files(alloc, words, shelf, err)
     } else if is_command(words, "run") {
         run_command(rt, alloc, words, shelf, out, err, link, gate)
+    } else if is_command(words, "find") {
+        find_command(rt, alloc, words, shelf, out, err, link, gate)
+    } else if is_command(words, "make") {
+        make_command(rt, alloc, words, out, err, link, gate)
     } else {
         eval_file(alloc, words, shelf, out, err)
     }
