@@ -1,0 +1,5 @@
+pub mod HeardSteps
+pub mod MadeSteps
+pub mod TellSteps
+pub mod FindSteps
+pub mod SumSteps
