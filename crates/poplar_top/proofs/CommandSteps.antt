@@ -35,8 +35,8 @@ by_words is_gen is_run is_find is_make =
 
 module _ (words : List (List ℕ)) where
   pub names_gen : (is_gen : Bool) → is_gen ≡ is_first (codes "gen") words → is_gen ≡ true → command_of words ≡ generates
-  names_gen is_gen g yes =
-      ap (λ b. by_words b (is_first (codes "run") words) (is_first (codes "find") words) (is_first (codes "make") words)) (sym g ∙ yes)
+  names_gen is_gen g is =
+      ap (λ b. by_words b (is_first (codes "run") words) (is_first (codes "find") words) (is_first (codes "make") words)) (sym g ∙ is)
 
   module _ (is_gen : Bool) (g : is_gen ≡ is_first (codes "gen") words) (no_gen : is_gen ≡ false) (is_run : Bool)
       (r : is_run ≡ is_first (codes "run") words) where
@@ -44,24 +44,24 @@ module _ (words : List (List ℕ)) where
     not_gen = ap (λ b. by_words b (is_first (codes "run") words) (is_first (codes "find") words) (is_first (codes "make") words)) (sym g ∙ no_gen)
 
     pub names_run : is_run ≡ true → command_of words ≡ runs
-    names_run yes = not_gen ∙ ap (λ b. by_words false b (is_first (codes "find") words) (is_first (codes "make") words)) (sym r ∙ yes)
+    names_run is = not_gen ∙ ap (λ b. by_words false b (is_first (codes "find") words) (is_first (codes "make") words)) (sym r ∙ is)
 
     module _ (no_run : is_run ≡ false) (is_find : Bool) (f : is_find ≡ is_first (codes "find") words) where
       not_run : command_of words ≡ by_words false false (is_first (codes "find") words) (is_first (codes "make") words)
       not_run = not_gen ∙ ap (λ b. by_words false b (is_first (codes "find") words) (is_first (codes "make") words)) (sym r ∙ no_run)
 
       pub names_find : is_find ≡ true → command_of words ≡ finds
-      names_find yes = not_run ∙ ap (λ b. by_words false false b (is_first (codes "make") words)) (sym f ∙ yes)
+      names_find is = not_run ∙ ap (λ b. by_words false false b (is_first (codes "make") words)) (sym f ∙ is)
 
       module _ (no_find : is_find ≡ false) (is_make : Bool) (m : is_make ≡ is_first (codes "make") words) where
         not_find : command_of words ≡ by_words false false false (is_first (codes "make") words)
         not_find = not_run ∙ ap (λ b. by_words false false b (is_first (codes "make") words)) (sym f ∙ no_find)
 
         pub names_make : is_make ≡ true → command_of words ≡ makes
-        names_make yes = not_find ∙ ap (λ b. by_words false false false b) (sym m ∙ yes)
+        names_make is = not_find ∙ ap (λ b. by_words false false false b) (sym m ∙ is)
 
         pub names_none : is_make ≡ false → command_of words ≡ evaluates
-        names_none no = not_find ∙ ap (λ b. by_words false false false b) (sym m ∙ no)
+        names_none is = not_find ∙ ap (λ b. by_words false false false b) (sym m ∙ is)
 
 -- ---- the promise of `eval`
 
@@ -158,12 +158,12 @@ module _ (words : List (List ℕ)) (settings : GenSettings) (given : Some settin
 
   pub gen_made_keeps : after.err ≡ before.err → Makes (names_of settings) (pairs_of settings) before.shelf.files after.shelf.files
       → KeepsOf generates words before after 0
-  gen_made_keeps quiet makes =
-      let zeros = zero_text settings.width settings.master settings.tag makes.them in
-      let ones = one_text settings.width settings.master settings.tag makes.them in
-      let are = files_are settings before.shelf.files makes.them makes.are in
+  gen_made_keeps quiet made =
+      let zeros = zero_text settings.width settings.master settings.tag made.them in
+      let ones = one_text settings.width settings.master settings.tag made.them in
+      let are = files_are settings before.shelf.files made.them made.are in
       gen_keeps 0 (made_meets (gen_told settings before.shelf.files) false before after settings.zero zeros settings.one ones
-      (may before.shelf.files zeros ones are) still quiet (written_shelf settings zeros ones before.shelf.files after.shelf.files are makes.holds))
+      (may before.shelf.files zeros ones are) still quiet (written_shelf settings zeros ones before.shelf.files after.shelf.files are made.holds))
       (still_later before.err after.err quiet) (λ e. omega (arith, e))
     where
       may : (files : Option Files) (zeros ones : List ℕ)

@@ -1,5 +1,5 @@
 -- The promise of each command where its words are not read: they give no settings, or memory was wanting for them.
-use Rattle.std.proofs.Common.{◌≡◌, ◌≤◌, inl, inr, ℕ, Bool, false, List, Option, None, Some, refl, sym, subst, ap, arith}
+use Rattle.std.proofs.Common.{◌≡◌, ◌≤◌, ◌⊎◌, inl, inr, ℕ, Bool, false, List, Option, None, Some, refl, sym, subst, ap, arith}
 use Rattle.std.specs.Prelude.{Result, Ok, Err}
 use Rattle.shelf_io.specs.Files.{Files}
 use Rattle.shelf_io.specs.Seen.{LinkSeen, SinkSeen, Outside}
@@ -88,14 +88,14 @@ unread_sends given files before after Memory none same = memory_sends given file
 
 -- ---- and in `find` and `make`
 
-eight : (8 ≡ 0) ⊎ ((8 ≡ 5) ⊎ ((8 ≡ 9) ⊎ (8 ≡ 10))) → ⊥
-eight (inl h) = omega (arith, h)
-eight (inr (inl h)) = omega (arith, h)
-eight (inr (inr (inl h))) = omega (arith, h)
-eight (inr (inr (inr h))) = omega (arith, h)
+eight : (n : ℕ) → n ≡ 8 → (n ≡ 0) ⊎ ((n ≡ 5) ⊎ ((n ≡ 9) ⊎ (n ≡ 10))) → ⊥
+eight n is (inl h) = omega (arith, is, h)
+eight n is (inr (inl h)) = omega (arith, is, h)
+eight n is (inr (inr (inl h))) = omega (arith, is, h)
+eight n is (inr (inr (inr h))) = omega (arith, is, h)
 
 search_sends : (rules : FindRules) (found : Strings) (before after : LinkSeen) → after.talk ≡ before.talk → SearchSends rules found before after 8
-search_sends rules (Ok strings) before after same = quiet_sends _ _ before after 8 same eight
+search_sends rules (Ok strings) before after same = quiet_sends _ _ before after 8 same (eight 8 refl)
 search_sends rules (Err e) before after same = same
 
 find_memory_sends : (given : Option FindSettings) (files : Option Files) (before after : LinkSeen) → after.talk ≡ before.talk
@@ -235,8 +235,8 @@ module _ (words : List (List ℕ)) (before after : Outside) (error : WordsError)
   keeps_find none =
       let walks = find_walks (find_words words) before.shelf.files in
       let meets = λ (ending : Option Ending).
-          unread_meets (find_settled ending (find_words words) before.shelf.files) walks before after error
-          (usage_is (λ s. find_settled ending s before.shelf.files) (find_words words) error refl none) still line kept in record {
+      unread_meets (find_settled ending (find_words words) before.shelf.files) walks before after error
+      (usage_is (λ s. find_settled ending s before.shelf.files) (find_words words) error refl none) still line kept in record {
         heard = meets (heard_ending before.link.talk after.link.talk);
         sends = find_sends (find_words words) before.shelf.files before.link after.link error none (ap (λ (l : LinkSeen). l.talk) same);
         kept = kept;
@@ -254,8 +254,8 @@ module _ (words : List (List ℕ)) (before after : Outside) (error : WordsError)
   keeps_make none =
       let walks = make_walks (make_words words) in
       let meets = λ (ending : Option Ending).
-          unread_meets (make_settled ending (make_words words)) walks before after error
-          (usage_is (λ s. make_settled ending s) (make_words words) error refl none) still line kept in record {
+      unread_meets (make_settled ending (make_words words)) walks before after error
+      (usage_is (λ s. make_settled ending s) (make_words words) error refl none) still line kept in record {
         heard = meets (heard_ending before.link.talk after.link.talk);
         sends = make_sends (make_words words) before.link after.link error none (ap (λ (l : LinkSeen). l.talk) same);
         kept = (shelf, not_six error);

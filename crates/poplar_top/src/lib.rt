@@ -2,8 +2,8 @@
 //! Its contract says for every command which text is written and which status may stand.
 #![tactic(auto)]
 
-pub mod laws;
 mod find;
+pub mod laws;
 mod refusal;
 mod run;
 mod stop;

@@ -8,13 +8,13 @@ ghost use Rattle.poplar_top.specs.FindLinks.{outside_but_shelf};
 ghost use Rattle.poplar_top.specs.Commands.{generates, runs, finds, makes, evaluates};
 ghost use Rattle.poplar_top.specs.Keeps.{KeepsOf, Keeps};
 
-use crate::find::stop_of_find;
+use crate::find::{find_rules, make_rules, stop_of_find};
 use crate::run::stop_of_run;
 use crate::stop::{stop_of_eval, stop_of_gen};
 use crate::telling::{tell_stop, tell_unread, write_texts};
 use command_words::{is_command, read_eval, read_find, read_gen, read_make, read_run};
 use file_eval::eval_texts;
-use file_find::{FindRules, find_strings, make_walk};
+use file_find::{find_strings, make_walk};
 use file_gen::make_files;
 use file_run::{RunRules, run_files};
 use pair_files::PairSettings;
@@ -140,18 +140,7 @@ fn find_command<R: Threads + Wait + Sync, H: Shelf, K: Sink, E: Sink, L: Link, G
         Ok(asked) => asked,
         Err(error) => return tell_unread(err, error),
     };
-    let rules = FindRules {
-        width: asked.width,
-        threshold: asked.threshold,
-        master: asked.master,
-        tag: asked.tag,
-        workers: asked.options.workers,
-        uploaders: asked.options.uploaders,
-        cap: asked.options.cap,
-        cache: asked.options.cache,
-        verify: asked.options.verify,
-        drill: asked.options.drill,
-    };
+    let rules = find_rules(&asked);
     match find_strings(rt, alloc, asked.strings, &rules, shelf, link, gate) {
         Ok(texts) => write_texts(out, err, &texts.out, &texts.err),
         Err(error) => tell_stop(alloc, err, stop_of_find(error)),
@@ -176,18 +165,7 @@ fn make_command<R: Threads + Wait + Sync, K: Sink, E: Sink, L: Link, G: Gate>(
         Ok(asked) => asked,
         Err(error) => return tell_unread(err, error),
     };
-    let rules = FindRules {
-        width: asked.width,
-        threshold: asked.threshold,
-        master: asked.master,
-        tag: 0,
-        workers: asked.options.workers,
-        uploaders: asked.options.uploaders,
-        cap: asked.options.cap,
-        cache: asked.options.cache,
-        verify: asked.options.verify,
-        drill: asked.options.drill,
-    };
+    let rules = make_rules(&asked);
     match make_walk(rt, alloc, asked.reports, &rules, link, gate) {
         Ok(texts) => write_texts(out, err, &texts.out, &texts.err),
         Err(error) => tell_stop(alloc, err, stop_of_find(error)),
