@@ -9,4 +9,5 @@ pub mod UnreadSteps
 pub mod RunSteps
 pub mod FindSteps
 pub mod RunLaws
+pub mod FindLaws
 pub mod StatusLaws

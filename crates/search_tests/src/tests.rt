@@ -5,8 +5,7 @@ use gates::{Hold, HoldGate};
 use poplar_top::poplar;
 use prefix_bits::Side;
 use shelf_io::{
-    Call, FirmLink, FirmSink, Gate, Link, MemoryLink, MemoryShelf, MemorySink, OpenGate, Twist,
-    TwistLink,
+    Call, FirmLink, FirmSink, Gate, Link, MemoryLink, MemoryShelf, MemorySink, OpenGate,
 };
 use std::alloc::{AllocError, Global};
 use std::sync::Wait;
@@ -173,20 +172,6 @@ const FAULTS: [(&str, Failing, Expected); 9] = [
     ),
 ];
 
-// Messages that are changed on the way, and what that comes to.
-const TWISTS: [(u32, Twist, Expected); 2] = [
-    (
-        0,
-        Twist::Byte { at: 0, value: 9 },
-        (9, "", "peer message: level 1 kind 1 at byte 0\n"),
-    ),
-    (
-        4,
-        Twist::Raise { element: 0 },
-        (9, "", "views differ: level 1 kind 3 place 0: 3 and 4\n"),
-    ),
-];
-
 // The messages of a walk over no reports, each sent by side 0 and then by side 1.
 const EMPTY: [&[u8]; 3] = [
     &[1, 0, 1, 0, 0, 0, 0],
@@ -263,19 +248,6 @@ fn objects_that_fail(rt: HostRuntime) -> Result<(), AllocError> {
                 expected
             )?,
             "at {row}"
-        );
-    }
-    Ok(())
-}
-
-#[test]
-fn messages_that_are_changed(rt: HostRuntime) -> Result<(), AllocError> {
-    for (message, twist, expected) in TWISTS {
-        let mut link = TwistLink::new(rt.alloc(), message, twist);
-        let row = "find --width 2 --threshold 2 s";
-        assert!(rt;
-            ends(&rt, rt.alloc(), row, &[], &mut link, &OpenGate, expected)?,
-            "at message {message}"
         );
     }
     Ok(())
