@@ -16,7 +16,8 @@ use std::sync::Wait;
 use std::thread::Threads;
 
 /// Runs the two share files of these names: side 0's is read whole, then side 1's, and the reports that both hold without clash
-/// are walked over the link.
+/// are walked over the link, each side by so many workers as the rules say. The gate is asked behind the drill of the rules. It
+/// waits.
 ///
 /// The texts are the frequent strings with their counts, and on err a line for each malformed record, side 0's first, and the
 /// line of the walk's end. The errors, in this order: `File` for side 0's file, then for side 1's; `Widths`; `Walk` for the

@@ -1,6 +1,7 @@
 -- From what the walk of the first frontier leaves to the promise of a whole walk.
-use Rattle.std.proofs.Common.{◌≡◌, ◌≤◌, ◌<◌, ◌^◌, ℕ, zero, suc, not, lit≤, Bool, true, false, List, [], ◌∷◌, length, refl, ap, subst, arith}
+use Rattle.std.proofs.Common.{◌≡◌, ◌≤◌, ◌<◌, ◌^◌, ℕ, zero, suc, not, lit≤, Bool, true, false, List, [], ◌∷◌, length, refl, sym, ap, subst, arith}
 use Rattle.std.specs.Prelude.{Option, None, Some, Result, Ok, Err, IfOk, IfErr, IfSome, if◌then◌else◌}
+use Rattle.std.specs.Result.{IsErr, IsErrAnd}
 use Rattle.std.specs.List.{filter}
 use Rattle.std.proofs.lemmas.List.Filters.{length-filter_both}
 use Rattle.definitions.specs.Field.{modulus}
@@ -21,6 +22,7 @@ use Rattle.pair_run.specs.Keeps.{end_reached, IsOwnEnd, SentUpTo, WalkKeeps}
 use Rattle.pair_run.specs.Steps.{IsAnswer}
 use Rattle.pair_run.specs.Talking.{Passed}
 use Rattle.pair_run.specs.Walks.{IsStage, EndsSo, TrulyEnds, IsUncapped}
+use Rattle.pair_run.proofs.Exchanges.{sent_none}
 use Rattle.pair_run.proofs.Followed.{if_ok}
 use Rattle.pair_run.proofs.WalkSteps.{truly_whole}
 
@@ -129,3 +131,23 @@ module _ (settings : Settings) (batch : List Report) (before after : LinkSeen) w
         honest = λ ready strings generated. true_answer result (ends ready) strings (are_honest settings batch strings bits threshold few generated);
         complete = λ ready. only_memory result cause (ends ready);
       }
+
+-- want of memory before anything is sent
+memory_keeps : (settings : Settings) (batch : List Report) (before : LinkSeen) → WalkKeeps settings batch before before (Err Memory)
+memory_keeps settings batch before = record {
+  sealed = tt;
+  lengths = tt;
+  heard = tt;
+  later = omega arith;
+  cause = λ e. absurd cc;
+  truly = λ _. tt;
+  sends = λ _. sent_none before.talk before.talk (messages settings batch) refl;
+  again = λ _. tt;
+  honest = λ _ _ _. tt;
+  complete = λ _ _ _. refl;
+}
+
+pub no_memory_keeps : (settings : Settings) (batch : List Report) (before : LinkSeen) (result : Result Answer PairError)
+    → IsErr result × IsErrAnd result (λ e. e ≡ Memory) → WalkKeeps settings batch before before result
+no_memory_keeps settings batch before (Ok answer) h = let no = h.0 in absurd cc
+no_memory_keeps settings batch before (Err e) h = subst (λ e. WalkKeeps settings batch before before (Err e)) (sym h.1) (memory_keeps settings batch before)

@@ -4,6 +4,7 @@ pub mod Exchanges
 pub mod Followed
 pub mod Views
 pub mod SideNumbers
+pub mod Phases
 pub mod Openings
 pub mod LevelParts
 pub mod WalkSteps

@@ -10,3 +10,4 @@ pub mod Levels
 pub mod Walks
 pub mod Steps
 pub mod Keeps
+pub mod Plans

@@ -1,5 +1,5 @@
 -- What a step of the walk leaves.
-use Rattle.std.specs.Prelude.{◌≡◌, ◌<◌, ◌^◌, ◌+◌, ℕ, Bool, List, Option, Some, length}
+use Rattle.std.specs.Prelude.{◌≡◌, ◌<◌, ◌≤◌, ◌+◌, ℕ, Bool, List, Option, Some, length}
 use Rattle.std.specs.List.{All}
 use Rattle.shelf_io.specs.Talks.{Talk}
 use Rattle.walk_definitions.specs.Reports.{Report}
@@ -38,7 +38,7 @@ abbrev pub StepKept : List Report → Frontier → Step → Type 0
 StepKept batch frontier (Done answer) = IsAnswer frontier batch answer
 StepKept batch frontier (Further next passed) =
     (next.bits ≡ frontier.bits) × (next.cap ≡ frontier.cap) × (next.level ≡ frontier.level + 1) × (frontier.level < frontier.bits)
-    × All (λ k. k < length batch) passed.items × (length passed.items < 2 ^ 27)
+    × All (λ k. k < length batch) passed.items × (length passed.items ≤ length batch)
 
 -- a step by what the pruning of its level ends in, with the places of the reports that passed
 abbrev pub IsOutcome : Frontier → List Report → List ℕ → Outcome → Step → Type 0

@@ -7,6 +7,7 @@ ghost use Rattle.prefix_bits.specs.declared.TheConstants.{MOST_BITS};
 ghost use Rattle.walk_definitions.specs.Reports.{batch};
 ghost use Rattle.shelf_io.specs.Seen.{link_seen};
 ghost use Rattle.pair_run.specs.Keeps.{WalkKeeps};
+ghost use Rattle.pair_run.specs.Plans.{HasFewTiles};
 ghost use Rattle.pair_run.specs.Ranges.{AreInRange};
 ghost use Rattle.pair_run.specs.Rules.{rules_of};
 
@@ -43,6 +44,7 @@ pub fn run_pair<R: Threads + Wait + Sync, K: Link, G: Gate>(
     requires levels1 { All (λ s. length s.levels ≡ settings.now.bits) one.items }
     requires few0 { length zero.items < 2 ^ 27 }
     requires few1 { length one.items < 2 ^ 31 }
+    requires tiles { HasFewTiles settings.now (length zero.items) }
     ensures { WalkKeeps (rules_of settings.now) (batch zero.items one.items)
         (link_seen K.Link link.old) (link_seen K.Link link.new) result }
 {

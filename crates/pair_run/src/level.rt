@@ -3,12 +3,15 @@
 
 ghost use Rattle.std.specs.Prelude.{◌≡◌, ◌<◌, ◌≤◌, ◌^◌, length, map, IfOk, IfErr, None};
 ghost use Rattle.std.specs.List.{All};
+ghost use Rattle.prefix_bits.specs.declared.TheConstants.{MOST_BITS};
 ghost use Rattle.walk_definitions.specs.Walk.{total, live_after};
 ghost use Rattle.walk_definitions.specs.Messages.{level_messages};
 ghost use Rattle.pair_run.specs.Failures.{end_of, Stops, HasPairCause};
 ghost use Rattle.pair_run.specs.Levels.{HaveLevels, stage_of};
 ghost use Rattle.pair_run.specs.Parts.{GoesOn, whole_level};
 ghost use Rattle.pair_run.specs.Places.{picked};
+ghost use Rattle.pair_run.specs.Plans.{HasFewTiles};
+ghost use Rattle.pair_run.specs.Ranges.{AreInRange};
 ghost use Rattle.pair_run.specs.Rules.{rules_of};
 ghost use Rattle.shelf_io.specs.Seen.{link_seen, IsTrueAndIdle};
 ghost use Rattle.pair_run.specs.Talking.{Passed, SentMore, SentPart};
@@ -21,8 +24,10 @@ use crate::totalling::add_totals;
 use field64::Fe;
 use prefix_bits::Prefix;
 use report_batch::Batch;
-use shelf_io::Link;
+use shelf_io::{Gate, Link};
 use std::alloc::Global;
+use std::sync::Wait;
+use std::thread::Threads;
 
 /// What a level leaves: the places of the reports that passed it, and the totals of its candidates.
 #[derive(Drop)]
@@ -32,7 +37,8 @@ pub struct WalkedLevel {
 }
 
 /// Walks a level, counted from 1, over its candidates and the reports that are live before it.
-pub fn walk_level<K: Link>(
+pub fn walk_level<R: Threads + Wait + Sync, K: Link, G: Gate>(
+    rt: &R,
     alloc: Global,
     link: &mut K,
     settings: &WalkSettings,
@@ -40,13 +46,17 @@ pub fn walk_level<K: Link>(
     candidates: &[Prefix],
     batch: &Batch,
     live: &[u32],
+    gate: &G,
 ) -> Result<WalkedLevel, PairError>
     requires first { 1 ≤ level }
-    requires few { length candidates.now ≤ 2 ^ 20 }
+    requires settings { AreInRange MOST_BITS settings.now }
+    requires tiles { HasFewTiles settings.now (length batch.now) }
+    requires few { length candidates.now ≤ settings.now.cap }
     requires long { All (λ q. length q ≡ level) candidates.now }
     requires levels { HaveLevels level batch.now }
     requires places { All (λ k. k < length batch.now) live.now }
     requires small { length live.now < 2 ^ 27 }
+    requires within { length live.now ≤ length batch.now }
     ensures places { IfOk result (λ walked. All (λ k. k < length batch.now) walked.live.items) }
     ensures small { IfOk result (λ walked. length walked.live.items ≤ length live.now) }
     ensures count { IfOk result (λ walked. length walked.totals.items ≡ length candidates.now) }
@@ -66,9 +76,13 @@ pub fn walk_level<K: Link>(
         (level_messages (rules_of settings.now) level (stage_of (picked batch.now live.now) candidates.now))) }
     ensures cause { HasPairCause (K.faults link.old) (K.faults link.new) result }
 {
-    let (opened0, opened1) = open_sums(alloc, link, settings, level, candidates, batch, live)?;
+    let (opened0, opened1) = open_sums(
+        rt, alloc, link, settings, level, candidates, batch, live, gate,
+    )?;
     let passed = check_reports(alloc, link, level, batch, live, &opened0, &opened1)?;
-    let totals = add_totals(alloc, link, level, candidates, batch, &passed)?;
+    let totals = add_totals(
+        rt, alloc, link, settings, level, candidates, batch, &passed, gate,
+    )?;
     Ok(WalkedLevel {
         live: passed,
         totals,

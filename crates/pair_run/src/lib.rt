@@ -1,4 +1,4 @@
-//! The walk of both sides over a link, level by level, on one thread.
+//! The walk of both sides over a link, level by level, each phase by crews of both sides at once.
 //! A phase is known by its sums over all live reports and candidates alone.
 #![tactic(auto)]
 
@@ -13,14 +13,11 @@ mod kind;
 mod level;
 mod opening;
 mod own_sigmas;
-mod own_sums;
-mod own_totals;
 mod places;
+mod plans;
 mod settings;
 mod step;
 mod survival;
-#[cfg(test)]
-mod tests;
 mod totalling;
 mod walking;
 

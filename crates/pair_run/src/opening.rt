@@ -3,6 +3,7 @@
 
 ghost use Rattle.std.specs.Prelude.{◌≡◌, ◌<◌, ◌≤◌, ◌^◌, length, map, IfOk, IfErr, None};
 ghost use Rattle.std.specs.List.{All};
+ghost use Rattle.prefix_bits.specs.declared.TheConstants.{MOST_BITS};
 ghost use Rattle.definitions.specs.declared.Side.TheVariants.{Zero, One};
 ghost use Rattle.definitions.specs.Field.{modulus};
 ghost use Rattle.definitions.specs.Sketch.{sums_added};
@@ -14,6 +15,8 @@ ghost use Rattle.pair_run.specs.declared.answers.PairError.TheVariants.{Memory};
 ghost use Rattle.pair_run.specs.Levels.{HaveLevels};
 ghost use Rattle.pair_run.specs.Parts.{GoesOn, opening};
 ghost use Rattle.pair_run.specs.Places.{picked};
+ghost use Rattle.pair_run.specs.Plans.{HasFewTiles};
+ghost use Rattle.pair_run.specs.Ranges.{AreInRange};
 ghost use Rattle.pair_run.specs.Rules.{rules_of};
 ghost use Rattle.shelf_io.specs.Seen.{link_seen, IsTrueAndIdle};
 ghost use Rattle.pair_run.specs.Talking.{Passed, SentMore, SentPart};
@@ -21,17 +24,22 @@ ghost use Rattle.pair_run.specs.Talking.{Passed, SentMore, SentPart};
 use crate::additions::opened_sums;
 use crate::answers::PairError;
 use crate::exchange::exchange_sums;
-use crate::own_sums::own_sums;
+use crate::plans::side_plan;
 use crate::settings::WalkSettings;
 use definitions::Side;
+use phase_state::Kind;
+use phase_sums::both_sums;
 use prefix_bits::Prefix;
 use report_batch::Batch;
-use shelf_io::Link;
+use shelf_io::{Gate, Link};
 use sketch_check::Sums;
 use std::alloc::Global;
+use std::sync::Wait;
+use std::thread::Threads;
 
 /// What both sides open of each live report at a level: side 0's and side 1's.
-pub fn open_sums<K: Link>(
+pub fn open_sums<R: Threads + Wait + Sync, K: Link, G: Gate>(
+    rt: &R,
     alloc: Global,
     link: &mut K,
     settings: &WalkSettings,
@@ -39,12 +47,16 @@ pub fn open_sums<K: Link>(
     candidates: &[Prefix],
     batch: &Batch,
     live: &[u32],
+    gate: &G,
 ) -> Result<(Vec<Sums>, Vec<Sums>), PairError>
-    requires few { length candidates.now ≤ 2 ^ 20 }
+    requires settings { AreInRange MOST_BITS settings.now }
+    requires tiles { HasFewTiles settings.now (length batch.now) }
+    requires few { length candidates.now ≤ settings.now.cap }
     requires long { All (λ q. length q ≡ level) candidates.now }
     requires levels { HaveLevels level batch.now }
     requires places { All (λ k. k < length batch.now) live.now }
     requires small { length live.now < 2 ^ 27 }
+    requires within { length live.now ≤ length batch.now }
     ensures counts { IfOk result (λ opened. (length opened.0.items ≡ length live.now) × (length opened.1.items ≡ length live.now)) }
     ensures goes { IfOk result (λ opened. Passed (K.talk link.old) (K.talk link.new)
         (GoesOn (opening (rules_of settings.now) level candidates.now (picked batch.now live.now)) (opened.0.items, opened.1.items))) }
@@ -62,33 +74,56 @@ pub fn open_sums<K: Link>(
         (end_of e ≡ None) × SentPart (K.talk link.old) (K.talk link.new) (both_send 1 level (flat sums0) (flat sums1))) }
     ensures cause { HasPairCause (K.faults link.old) (K.faults link.new) result }
 {
-    let sums0 = side_sums(alloc, settings, level, candidates, Side::Zero, batch, live)?;
-    let sums1 = side_sums(alloc, settings, level, candidates, Side::One, batch, live)?;
+    let (sums0, sums1) = own_sums(rt, alloc, settings, level, candidates, batch, live, gate)?;
     let (to0, to1) = exchange_sums(alloc, link, level, &sums0, &sums1)?;
     let opened0 = opened_sums(alloc, &sums0, &to0)?;
     let opened1 = opened_sums(alloc, &sums1, &to1)?;
     Ok((opened0, opened1))
 }
 
-/// A side's own sums of a batch's live reports.
-fn side_sums(
+/// Both sides' own sums of a batch's live reports, made by a crew a side at once and hidden.
+fn own_sums<R: Threads + Wait + Sync, G: Gate>(
+    rt: &R,
     alloc: Global,
     settings: &WalkSettings,
     level: u16,
     candidates: &[Prefix],
-    side: Side,
     batch: &Batch,
     live: &[u32],
-) -> Result<Vec<Sums>, PairError>
-    requires few { length candidates.now ≤ 2 ^ 20 }
+    gate: &G,
+) -> Result<(Vec<Sums>, Vec<Sums>), PairError>
+    requires settings { AreInRange MOST_BITS settings.now }
+    requires tiles { HasFewTiles settings.now (length batch.now) }
+    requires few { length candidates.now ≤ settings.now.cap }
     requires long { All (λ q. length q ≡ level) candidates.now }
     requires levels { HaveLevels level batch.now }
     requires places { All (λ k. k < length batch.now) live.now }
-    ensures sums { IfOk result (λ sums. sums.items ≡ map (own_sums (rules_of settings.now) level candidates.now side) (picked batch.now live.now)) }
-    ensures count { IfOk result (λ sums. length sums.items ≡ length live.now) }
-    ensures below { IfOk result (λ sums. All (λ n. n < modulus) (flat sums.items)) }
+    requires small { length live.now < 2 ^ 27 }
+    requires within { length live.now ≤ length batch.now }
+    ensures sums0 { IfOk result (λ own. own.0.items ≡ map (own_sums (rules_of settings.now) level candidates.now Zero) (picked batch.now live.now)) }
+    ensures sums1 { IfOk result (λ own. own.1.items ≡ map (own_sums (rules_of settings.now) level candidates.now One) (picked batch.now live.now)) }
+    ensures count { IfOk result (λ own. (length own.0.items ≡ length live.now) × (length own.1.items ≡ length live.now)) }
+    ensures below0 { IfOk result (λ own. All (λ n. n < modulus) (flat own.0.items)) }
+    ensures below1 { IfOk result (λ own. All (λ n. n < modulus) (flat own.1.items)) }
     ensures memory { IfErr result (λ e. e ≡ Memory) }
 {
-    let shares = batch.shares(side);
-    Ok(own_sums(alloc, settings, level, candidates, side, shares, live)?)
+    let zero = side_plan(
+        settings,
+        Kind::Sketch,
+        level,
+        candidates,
+        Side::Zero,
+        batch,
+        live,
+    );
+    let one = side_plan(
+        settings,
+        Kind::Sketch,
+        level,
+        candidates,
+        Side::One,
+        batch,
+        live,
+    );
+    Ok(both_sums(rt, alloc, &zero, &one, settings.workers, gate)?)
 }

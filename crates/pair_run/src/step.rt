@@ -3,9 +3,12 @@
 
 ghost use Rattle.std.specs.Prelude.{◌≡◌, ◌<◌, ◌≤◌, ◌^◌, length, IfOk, IfErr, IfSome};
 ghost use Rattle.std.specs.List.{All};
+ghost use Rattle.prefix_bits.specs.declared.TheConstants.{MOST_BITS};
 ghost use Rattle.pair_run.specs.Failures.{end_of, HasPairCause};
 ghost use Rattle.pair_run.specs.Levels.{HaveLevels};
 ghost use Rattle.pair_run.specs.Places.{picked};
+ghost use Rattle.pair_run.specs.Plans.{HasFewTiles};
+ghost use Rattle.pair_run.specs.Ranges.{AreInRange};
 ghost use Rattle.pair_run.specs.Rules.{rules_of};
 ghost use Rattle.frontier_walk.specs.Outcomes.{pruned};
 ghost use Rattle.pair_run.specs.Steps.{StepHeard, StepTrue, StepKept, IsOutcome, IsStop};
@@ -19,8 +22,10 @@ use crate::settings::WalkSettings;
 use definitions::Sequence;
 use frontier_walk::{Frontier, Next};
 use report_batch::Batch;
-use shelf_io::Link;
+use shelf_io::{Gate, Link};
 use std::alloc::Global;
+use std::sync::Wait;
+use std::thread::Threads;
 
 /// What follows a level.
 #[derive(Drop)]
@@ -32,21 +37,24 @@ pub enum Step {
 }
 
 /// Walks the frontier's level and prunes it.
-pub fn walk_step<K: Link>(
+pub fn walk_step<R: Threads + Wait + Sync, K: Link, G: Gate>(
+    rt: &R,
     alloc: Global,
     link: &mut K,
     settings: &WalkSettings,
     batch: &Batch,
     frontier: Frontier,
     live: Vec<u32>,
+    gate: &G,
 ) -> Result<Step, PairError>
     requires bits { frontier.bits ≡ settings.now.bits }
     requires cap { frontier.cap ≡ settings.now.cap }
-    requires threshold { 1 ≤ settings.now.threshold }
+    requires settings { AreInRange MOST_BITS settings.now }
+    requires tiles { HasFewTiles settings.now (length batch.now) }
     requires levels { HaveLevels settings.now.bits batch.now }
     requires few { length batch.now < 2 ^ 27 }
     requires places { All (λ k. k < length batch.now) live.items }
-    requires small { length live.items < 2 ^ 27 }
+    requires within { length live.items ≤ length batch.now }
     ensures kept { IfOk result (StepKept batch.now frontier) }
     ensures heard { IfOk result (StepHeard (rules_of settings.now) batch.now frontier live.items (K.talk link.old) (K.talk link.new)) }
     ensures stops { IfErr result (λ e. IfSome (end_of e) (λ end. Passed (K.talk link.old) (K.talk link.new)
@@ -60,6 +68,7 @@ pub fn walk_step<K: Link>(
     ensures cause { HasPairCause (K.faults link.old) (K.faults link.new) result }
 {
     let walked = walk_level(
+        rt,
         alloc,
         link,
         settings,
@@ -67,6 +76,7 @@ pub fn walk_step<K: Link>(
         frontier.candidates(),
         batch,
         &live,
+        gate,
     )?;
     pruned_step(alloc, settings, batch, frontier, walked)
 }
@@ -84,7 +94,7 @@ fn pruned_step(
     requires threshold { 1 ≤ settings.now.threshold }
     requires few { length batch.now < 2 ^ 27 }
     requires places { All (λ k. k < length batch.now) walked.live.items }
-    requires small { length walked.live.items < 2 ^ 27 }
+    requires within { length walked.live.items ≤ length batch.now }
     ensures kept { IfOk result (StepKept batch.now frontier) }
     ensures outcome { IfOk result (IsOutcome frontier batch.now walked.live.items
         (pruned frontier walked.totals.items settings.now.threshold)) }

@@ -9,6 +9,7 @@ ghost use Rattle.shelf_io.specs.Seen.{link_seen, IsTrueAndIdle};
 ghost use Rattle.pair_run.specs.Keeps.{end_reached, WalkKeeps};
 ghost use Rattle.pair_run.specs.Levels.{HaveLevels};
 ghost use Rattle.pair_run.specs.Places.{picked};
+ghost use Rattle.pair_run.specs.Plans.{HasFewTiles};
 ghost use Rattle.pair_run.specs.Ranges.{AreInRange, HaveBits};
 ghost use Rattle.pair_run.specs.Rules.{rules_of};
 ghost use Rattle.pair_run.specs.Steps.{IsAnswer};
@@ -20,14 +21,17 @@ use crate::places::all_places;
 use crate::settings::WalkSettings;
 use crate::step::{Step, walk_step};
 use frontier_walk::Frontier;
+use gates::DrillGate;
 use report_batch::Batch;
 use shelf_io::{Gate, Link};
 use std::alloc::Global;
 use std::sync::Wait;
 use std::thread::Threads;
 
-/// Walks the batch over the link: at each level both sides send, take, open, check and add. The runtime and the gate are
-/// for the workers of the form with threads; this one walks on the caller's thread.
+/// Walks the batch over the link: at each level both sides send, take, open, check and add. A side's sums and totals are made
+/// by a crew of `workers` threads, both sides' at once, in tiles of `by_reports` by `by_candidates`; each claimed tile is asked
+/// of the gate behind the drill, and what the workers leave out is swept. All else is done by the caller's thread. The promise
+/// depends on none of these. It waits.
 ///
 /// The answer has the strings that at least the threshold of reports hold, ascending, with their counts. The promise is
 /// `WalkKeeps`, between what the link told before and after. On every told link the answer, and each error but `Link` and
@@ -38,39 +42,55 @@ use std::thread::Threads;
 /// just its messages were sent, after `Link` and `Memory` the first of them (`sends`); after an answer or `Cap` the link is
 /// true and idle again (`again`); and generated reports give exactly the frequent strings (`honest`).
 pub fn walk<R: Threads + Wait + Sync, K: Link, G: Gate>(
-    _rt: &R,
+    rt: &R,
     alloc: Global,
     batch: &Batch,
     settings: &WalkSettings,
     link: &mut K,
-    _gate: &G,
+    gate: &G,
 ) -> Result<Answer, PairError>
     requires settings { AreInRange MOST_BITS settings.now }
     requires levels { HaveBits settings.now.bits batch.now }
     requires few { length batch.now < 2 ^ 27 }
+    requires tiles { HasFewTiles settings.now (length batch.now) }
     ensures { WalkKeeps (rules_of settings.now) batch.now (link_seen K.Link link.old) (link_seen K.Link link.new) result }
 {
     let live = all_places(alloc, batch.len() as u32)?;
     let frontier = Frontier::first(alloc, settings.bits, settings.cap)?;
-    walk_from(alloc, link, settings, batch, frontier, live)
+    let gate = drill(settings, gate);
+    walk_from(rt, alloc, link, settings, batch, frontier, live, &gate)
+}
+
+/// The gate of a walk: the one that is given, behind the drill of the settings.
+fn drill<'g, G: Gate>(settings: &WalkSettings, gate: &'g G) -> DrillGate<'g, G>
+    ensures drilled { result.n ≡ settings.now.drill }
+    ensures inner { result.inner.now ≡ gate.now }
+{
+    DrillGate {
+        n: settings.drill,
+        inner: gate,
+    }
 }
 
 /// The walk from a frontier's level on.
-fn walk_from<K: Link>(
+fn walk_from<R: Threads + Wait + Sync, K: Link, G: Gate>(
+    rt: &R,
     alloc: Global,
     link: &mut K,
     settings: &WalkSettings,
     batch: &Batch,
     frontier: Frontier,
     live: Vec<u32>,
+    gate: &G,
 ) -> Result<Answer, PairError>
     requires bits { frontier.bits ≡ settings.now.bits }
     requires cap { frontier.cap ≡ settings.now.cap }
-    requires threshold { 1 ≤ settings.now.threshold }
+    requires settings { AreInRange MOST_BITS settings.now }
+    requires tiles { HasFewTiles settings.now (length batch.now) }
     requires levels { HaveLevels settings.now.bits batch.now }
     requires few { length batch.now < 2 ^ 27 }
     requires places { All (λ k. k < length batch.now) live.items }
-    requires small { length live.items < 2 ^ 27 }
+    requires within { length live.items ≤ length batch.now }
     ensures answer { IfOk result (IsAnswer frontier batch.now) }
     ensures heard { IfSome (end_reached result) (λ end. Passed (K.talk link.old) (K.talk link.new)
         (EndsSo (rules_of settings.now) frontier (picked batch.now live.items) end)) }
@@ -79,8 +99,10 @@ fn walk_from<K: Link>(
         → TrulyEnds (rules_of settings.now) batch.now frontier (K.is_true link.new) (K.talk link.old) (K.talk link.new) (end_reached result) }
     ensures cause { HasPairCause (K.faults link.old) (K.faults link.new) result }
 {
-    match walk_step(alloc, link, settings, batch, frontier, live)? {
+    match walk_step(rt, alloc, link, settings, batch, frontier, live, gate)? {
         Step::Done(answer) => Ok(answer),
-        Step::Further(next, passed) => walk_from(alloc, link, settings, batch, next, passed),
+        Step::Further(next, passed) => {
+            walk_from(rt, alloc, link, settings, batch, next, passed, gate)
+        }
     }
 }

@@ -53,8 +53,14 @@ unheard_answer (Err e) = run_refused e
 
 -- what the walk is told
 abbrev pub rules_asked : RunSettings → RunRules
-rules_asked settings =
-    record { threshold = settings.threshold; uploaders = settings.options.uploaders; cap = settings.options.cap; verify = settings.options.verify }
+rules_asked settings = record {
+  threshold = settings.threshold;
+  workers = settings.options.workers;
+  uploaders = settings.options.uploaders;
+  cap = settings.options.cap;
+  verify = settings.options.verify;
+  drill = settings.options.drill;
+}
 
 abbrev pub files_asked : RunSettings → Files → Result Both RunError
 files_asked settings held = begun settings.zero settings.one held

@@ -111,9 +111,11 @@ fn run_command<R: Threads + Wait + Sync, H: Shelf, K: Sink, E: Sink, L: Link, G:
     };
     let rules = RunRules {
         threshold: asked.threshold,
+        workers: asked.options.workers,
         uploaders: asked.options.uploaders,
         cap: asked.options.cap,
         verify: asked.options.verify,
+        drill: asked.options.drill,
     };
     match run_files(rt, alloc, asked.zero, asked.one, &rules, shelf, link, gate) {
         Ok(texts) => write_texts(out, err, &texts.out, &texts.err),

@@ -1,8 +1,15 @@
+use Rattle.std.proofs.Common.{ap, length, arith}
 use Rattle.answer_text.specs.AnswerText.{sealed_line}
 use Rattle.shelf_io.specs.Seen.{sources}
 use Rattle.file_run.specs.Beginnings.{settings_for, batch_for}
 use Rattle.file_run.proofs.WalkSteps.{batches_same, lines_same, same_walk, error_keeps, texts_keeps, no_texts_keeps}
+use Rattle.file_run.proofs.Bounds.{within_a_file}
 use Rattle.file_run.proofs.running.run_files.Goals as goal
+
+pub run_pair-walked-requires-clause-tiles : goal.run_pair-walked-requires-clause-tiles
+run_pair-walked-requires-clause-tiles g c = λ _ _.
+    let within = within_a_file c.in-Ok.both.0 c.in-Ok.ensures.sound in
+    c.walk_settings-settings.ensures.tiles (length c.into_vec.result.items) (omega (arith, ap length c.into_vec.ensures.same, within))
 
 pub returns-in-Ok-texts_of : goal.returns-in-Ok-texts_of
 returns-in-Ok-texts_of g c =

@@ -1,9 +1,10 @@
-use Rattle.std.proofs.Common.{◌≡◌, ap, sym, subst, length, arith}
+use Rattle.std.proofs.Common.{◌≡◌, ◌≤◌, ap, sym, subst, length, arith}
 use Rattle.std.specs.Prelude.{map}
 use Rattle.std.specs.List.{All}
 use Rattle.walk_definitions.specs.Reports.{held}
 use Rattle.report_batch.proofs.Given.{all_levels}
 use Rattle.report_batch.proofs.Sizes.{size}
+use Rattle.pair_run.proofs.Phases.{fewer_reports}
 use Rattle.pair_run.proofs.collection.run_pair.Goals as goal
 
 pub walk-requires-clause-levels : goal.walk-requires-clause-levels
@@ -15,3 +16,10 @@ pub walk-requires-clause-few : goal.walk-requires-clause-few
 walk-requires-clause-few g c =
     let count = ap (λ rs. length rs) c.in_ok-reports.ensures.exact in
     omega (arith, count, (size c.args.zero.items c.args.one.items).0, c.requires.few0)
+
+pub walk-requires-clause-tiles : goal.walk-requires-clause-tiles
+walk-requires-clause-tiles g c = λ _ _.
+    let count = ap (λ rs. length rs) c.in_ok-reports.ensures.exact in
+    let fewer : length c.in_ok-reports.reports ≤ length c.args.zero.items = omega (arith, count, (size c.args.zero.items c.args.one.items).0) in
+    fewer_reports c.args.settings.now (length c.in_ok-reports.reports) (length c.args.zero.items) c.requires.settings.some_reports
+    c.requires.settings.some_candidates fewer c.requires.tiles

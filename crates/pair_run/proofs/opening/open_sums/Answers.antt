@@ -23,8 +23,8 @@ returns-in_err-to0-clause-stops g c =
     let live = picked c.args.batch.now c.args.live.now in
     let talk0 = g.K.Link.talk c.args.link.now in
     let talk1 = g.K.Link.talk c.exchange_sums.new.link in
-    let sums0 = c.deref.ensures.value ∙ c.in_ok-sums0.ensures.sums in
-    let sums1 = c.deref-2.ensures.value ∙ c.in_ok-sums1.ensures.sums in
+    let sums0 = c.deref.ensures.value ∙ c.in_ok-sums0.ensures.sums0 in
+    let sums1 = c.deref-2.ensures.value ∙ c.in_ok-sums0.ensures.sums1 in
     err_same c.from_residual-in_err-to0.result c.in_err-to0.field-0.0 (Stops (opening rules c.args.level c.args.candidates.now live) talk0 talk1)
     c.from_residual-in_err-to0.ensures
     (stops_as (exchange 1 c.args.level (flat c.deref.result.now) (flat c.deref-2.result.now)) (opening rules c.args.level c.args.candidates.now live) talk0 talk1 c.in_err-to0.field-0.0
@@ -36,8 +36,8 @@ returns-in_err-opened0-clause-partly g c =
     let live = picked c.args.batch.now c.args.live.now in
     let talk0 = g.K.Link.talk c.args.link.now in
     let talk1 = g.K.Link.talk c.exchange_sums.new.link in
-    let own0 = c.deref.ensures.value ∙ c.in_ok-sums0.ensures.sums in
-    let own1 = c.deref-2.ensures.value ∙ c.in_ok-sums1.ensures.sums in
+    let own0 = c.deref.ensures.value ∙ c.in_ok-sums0.ensures.sums0 in
+    let own1 = c.deref-2.ensures.value ∙ c.in_ok-sums0.ensures.sums1 in
     let both = both_send 1 c.args.level (flat (map (own_sums rules c.args.level c.args.candidates.now Zero) live)) (flat (map (own_sums rules c.args.level c.args.candidates.now One) live)) in
     err_same c.from_residual-in_err-opened0.result Memory
     (λ e. IsReady (g.K.Link.is_true c.args.link.now) talk0 → (end_of e ≡ None) × SentPart talk0 talk1 both)
@@ -54,8 +54,8 @@ returns-in_err-opened1-clause-partly g c =
     let live = picked c.args.batch.now c.args.live.now in
     let talk0 = g.K.Link.talk c.args.link.now in
     let talk1 = g.K.Link.talk c.exchange_sums.new.link in
-    let own0 = c.deref.ensures.value ∙ c.in_ok-sums0.ensures.sums in
-    let own1 = c.deref-2.ensures.value ∙ c.in_ok-sums1.ensures.sums in
+    let own0 = c.deref.ensures.value ∙ c.in_ok-sums0.ensures.sums0 in
+    let own1 = c.deref-2.ensures.value ∙ c.in_ok-sums0.ensures.sums1 in
     let both = both_send 1 c.args.level (flat (map (own_sums rules c.args.level c.args.candidates.now Zero) live)) (flat (map (own_sums rules c.args.level c.args.candidates.now One) live)) in
     err_same c.from_residual-in_err-opened1.result Memory
     (λ e. IsReady (g.K.Link.is_true c.args.link.now) talk0 → (end_of e ≡ None) × SentPart talk0 talk1 both)
@@ -68,9 +68,9 @@ returns-in_err-opened1-clause-partly g c =
 
 pub returns-clause-counts : goal.returns-clause-counts
 returns-clause-counts g c =
-    let count = c.in_ok-sums0.ensures.count in
+    let count = c.in_ok-sums0.ensures.count.0 in
     let own0 = ap length c.deref-3.ensures.value ∙ count in
-    let own1 = ap length c.deref-5.ensures.value ∙ c.in_ok-sums1.ensures.count in
+    let own1 = ap length c.deref-5.ensures.value ∙ c.in_ok-sums0.ensures.count.1 in
     let to0 = ap length c.deref-4.ensures.value ∙ c.in_ok-to0.ensures.counts.0 ∙ ap length c.deref.ensures.value ∙ count in
     let to1 = ap length c.deref-6.ensures.value ∙ c.in_ok-to0.ensures.counts.1 ∙ ap length c.deref.ensures.value ∙ count in (
       ap length c.in_ok-opened0.ensures.sums ∙ length_paired sums_added c.deref-3.result.now c.deref-4.result.now (own0 ∙ sym to0) ∙ own0,
@@ -92,5 +92,5 @@ returns-clause-goes g c =
     passed_map (g.K.Link.talk c.args.link.now) (g.K.Link.talk c.exchange_sums.new.link) (GoesOn (exchange 1 c.args.level (flat own0) (flat own1)) (flat to0, flat to1))
     (GoesOn (opening rules c.args.level c.args.candidates.now live) (c.in_ok-opened0.opened0.items, c.in_ok-opened1.opened1.items))
     (λ s z o h. opening_goes rules c.args.level c.args.candidates.now live own0 own1 to0 to1 c.in_ok-opened0.opened0.items c.in_ok-opened1.opened1.items s z o
-    (c.deref.ensures.value ∙ c.in_ok-sums0.ensures.sums) (c.deref-2.ensures.value ∙ c.in_ok-sums1.ensures.sums) opened0 opened1 h)
+    (c.deref.ensures.value ∙ c.in_ok-sums0.ensures.sums0) (c.deref-2.ensures.value ∙ c.in_ok-sums0.ensures.sums1) opened0 opened1 h)
     c.in_ok-to0.ensures.goes
