@@ -1,2 +1,3 @@
 pub mod NumberSteps
-pub mod RunPlaces
+mod CrateSteps
+mod Simple

@@ -1,3 +1,7 @@
 pub mod Values
+pub mod Commands
+pub mod Reading
 pub mod Settings
-pub mod RunSettings
+pub mod Ranges
+pub mod Seen
+pub mod Laws

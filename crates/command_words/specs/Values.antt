@@ -1,5 +1,5 @@
 -- What single words of the command line say.
-use Rattle.std.specs.Prelude.{ℕ, Bool, not, ◌&&◌, ◌||◌, List, Option, None, Some, Result, Ok, Err, codes, length, map, nat_eq, nat_lt, slice_index_or}
+use Rattle.std.specs.Prelude.{ℕ, Bool, not, ◌&&◌, ◌||◌, List, Option, None, Some, Result, Ok, Err, codes, length, map, nat_eq, nat_lt, replicate}
 use Rattle.std.specs.Bool.{if◌then◌else◌}
 use Rattle.std.specs.List.{list_all}
 use Rattle.std.specs.Str.{bytes_eq}
@@ -29,9 +29,12 @@ prefix_of word =
     else if nat_lt MOST_BITS (length word) then None
     else bits_of_digits word
 
--- a name is not empty, and a positional word does not begin with a dash
+-- a name is not empty
 abbrev pub is_name : List ℕ → Bool
-is_name word = not (nat_eq (length word) 0) && not (nat_eq (slice_index_or word 0 0) 45)
+is_name word = not (nat_eq (length word) 0)
+
+abbrev pub name_of : List ℕ → Option (List ℕ)
+name_of word = if is_name word then Some word else None
 
 -- the decimal digits
 abbrev pub is_digit : ℕ → Bool
@@ -55,3 +58,7 @@ decoded (Err e) = None
 
 abbrev pub seed_of : List ℕ → Option (List ℕ)
 seed_of word = decoded (decode_sized word 32)
+
+-- the seed of zeros
+abbrev pub no_seed : List ℕ
+no_seed = replicate 32 0

@@ -4,11 +4,18 @@
 ghost use Rattle.std.specs.Prelude.{◌≡◌, map};
 ghost use Rattle.std.specs.Option.{option_map};
 ghost use Rattle.std.specs.String.{string_bytes};
-ghost use Rattle.command_words.specs.Settings.{eval_made, eval_words};
-ghost use Rattle.command_words.specs.Values.{side_of, prefix_of};
+ghost use Rattle.clap.specs.Words.{found_of, rows_of};
+ghost use Rattle.command_words.specs.Reading.{Reads};
+ghost use Rattle.command_words.specs.Seen.{eval_seen};
+ghost use Rattle.command_words.specs.Settings.{eval_found, eval_words};
 
-use crate::values::{is_name, read_prefix, read_side};
+use crate::commands::eval_command;
+use crate::reading::{behind, file_name, found, word_of};
+use crate::values::{read_prefix, read_side};
+use crate::words_error::WordsError;
+use clap::ArgMatches;
 use prefix_bits::{Prefix, Side};
+use std::alloc::Global;
 
 /// What `eval` is asked for.
 #[derive(Clone, Copy)]
@@ -21,33 +28,26 @@ pub struct EvalAsked<'a> {
     pub file: &'a str,
 }
 
-// The three words behind `eval`.
-fn read_three<'a>(side: &str, prefix: &str, file: &'a str) -> Option<EvalAsked<'a>>
-    ensures value { option_map (λ a. record { side = a.side; prefix = a.prefix; file = a.file.now }) result
-        ≡ eval_made (side_of side.now) (prefix_of prefix.now) file.now }
+// The settings of the matches.
+fn eval_asked<'a>(matches: &ArgMatches<'a>) -> Option<EvalAsked<'a>>
+    ensures value { option_map eval_seen result ≡ eval_found (rows_of (found_of matches.now)) }
 {
-    let Some(side) = read_side(side) else {
-        return None;
-    };
-    let Some(prefix) = read_prefix(prefix) else {
-        return None;
-    };
-    if !is_name(file) {
-        return None;
-    }
+    let side = read_side(word_of(matches, "side")?)?;
+    let prefix = read_prefix(word_of(matches, "prefix")?)?;
+    let file = file_name(matches, "file")?;
     Some(EvalAsked { side, prefix, file })
 }
 
-/// The words of `eval`, the command first.
-pub fn read_eval(words: &[String]) -> Option<EvalAsked<'_>>
-    ensures value { option_map (λ a. record { side = a.side; prefix = a.prefix; file = a.file.now }) result
-        ≡ eval_words (map string_bytes words.now) }
+/// The words of `eval`, the command first. Where they give no settings, the error is `Usage`; `Memory` is want of memory.
+pub fn read_eval(alloc: Global, words: &[String]) -> Result<EvalAsked<'_>, WordsError>
+    ensures reads { Reads eval_seen (eval_words (map string_bytes words.now)) result }
 {
-    if words.len() != 4 {
-        return None;
+    let Some(words) = behind(words, "eval") else {
+        return Err(WordsError::Usage);
+    };
+    let matches = found(eval_command(alloc)?, words)?;
+    match eval_asked(&matches) {
+        Some(asked) => Ok(asked),
+        None => Err(WordsError::Usage),
     }
-    if words[0].as_str() != "eval" {
-        return None;
-    }
-    read_three(words[1].as_str(), words[2].as_str(), words[3].as_str())
 }

@@ -1,14 +1,21 @@
 //! The words of `gen`: its options and three names.
 //! What they ask for is `gen_words` of specs/Settings.antt.
 
-ghost use Rattle.std.specs.Prelude.{◌≡◌, ◌≢◌, ◌+◌, ◌≤◌, ◌<◌, map, length, IfSome};
+ghost use Rattle.std.specs.Prelude.{◌≡◌, ◌≢◌, map, IfOk, IfSome};
 ghost use Rattle.std.specs.Option.{option_map};
 ghost use Rattle.std.specs.String.{string_bytes};
-ghost use Rattle.command_words.specs.Settings.{are_three, gen_made, gen_form, gen_words, tag_at};
-ghost use Rattle.command_words.specs.Values.{number_in, seed_of};
+ghost use Rattle.clap.specs.Words.{found_of, rows_of};
+ghost use Rattle.command_words.specs.Ranges.{IsWidth};
+ghost use Rattle.command_words.specs.Reading.{Reads};
+ghost use Rattle.command_words.specs.Seen.{gen_seen};
+ghost use Rattle.command_words.specs.Settings.{gen_found, gen_words, names_found, tag_of, width_of};
 
-use crate::values::{is_name, read_number, read_seed};
+use crate::commands::gen_command;
+use crate::reading::{behind, file_name, found, needed_number, needed_seed, number_or};
+use crate::words_error::WordsError;
+use clap::ArgMatches;
 use seed_expand::Seed;
+use std::alloc::Global;
 
 /// What `gen` is asked for.
 #[derive(Clone, Copy)]
@@ -17,56 +24,59 @@ pub struct GenAsked<'a> {
     pub width: u8,
     /// The seed of all coins.
     pub master: Seed,
-    /// The tag of the reports' ids.
+    /// The tag of the reports' ids, 0 where no word gives one.
     pub tag: u64,
     /// The name of the strings file.
     pub strings: &'a str,
     /// The name of the file for side 0's shares.
     pub zero: &'a str,
-    /// The name of the file for side 1's shares, another than that for side 0's.
+    /// The name of the file for side 1's shares. The three names differ pairwise.
     pub one: &'a str,
 }
 
-// Whether three words are names that differ pairwise.
-fn are_three(strings: &str, zero: &str, one: &str) -> bool
-    ensures value { result ≡ are_three strings.now zero.now one.now }
+/// The width of the strings in bytes.
+pub(crate) fn width(matches: &ArgMatches<'_>) -> Option<u8>
+    ensures value { result ≡ width_of (rows_of (found_of matches.now)) }
+    ensures within { IfSome result IsWidth }
 {
-    is_name(strings)
-        && is_name(zero)
-        && is_name(one)
-        && strings != zero
-        && strings != one
-        && zero != one
+    let width = needed_number(matches, "width", 1, 32)?;
+    Some(width as u8)
 }
 
-// The values of `gen`, each read from its word.
-fn read_gen_values<'a>(
-    width: &str,
-    master: &str,
-    tag: Option<u64>,
-    strings: &'a str,
-    zero: &'a str,
-    one: &'a str,
-) -> Option<GenAsked<'a>>
-    ensures value { option_map (λ a. record { width = a.width; master = a.master; tag = a.tag; strings = a.strings.now; zero = a.zero.now; one = a.one.now }) result
-        ≡ gen_made (number_in 1 32 width.now) (seed_of master.now) tag strings.now zero.now one.now }
-    ensures width { IfSome result (λ a. (1 ≤ a.width) × (a.width ≤ 32)) }
-    ensures differ { IfSome result (λ a. a.zero.now ≢ a.one.now) }
+/// The tag of the reports' ids, and where no word gives one 0.
+pub(crate) fn tag(matches: &ArgMatches<'_>) -> Option<u64>
+    ensures value { result ≡ tag_of (rows_of (found_of matches.now)) }
 {
-    let Some(width) = read_number(width, 1, 32) else {
-        return None;
-    };
-    let Some(master) = read_seed(master) else {
-        return None;
-    };
-    let Some(tag) = tag else {
-        return None;
-    };
-    if !are_three(strings, zero, one) {
-        return None;
+    number_or(matches, "tag", 0, 18446744073709551615, 0)
+}
+
+// The three names, which differ pairwise.
+fn names<'a>(matches: &ArgMatches<'a>) -> Option<(&'a str, &'a str, &'a str)>
+    ensures value { option_map (λ names. (names.0.now, names.1.now, names.2.now)) result ≡ names_found (rows_of (found_of matches.now)) }
+    ensures differ { IfSome result (λ names. names.1.now ≢ names.2.now) }
+{
+    let strings = file_name(matches, "strings")?;
+    let zero = file_name(matches, "zero")?;
+    let one = file_name(matches, "one")?;
+    if strings != zero && strings != one && zero != one {
+        Some((strings, zero, one))
+    } else {
+        None
     }
+}
+
+// The settings of the matches.
+fn gen_asked<'a>(matches: &ArgMatches<'a>) -> Option<GenAsked<'a>>
+    ensures value { option_map gen_seen result ≡ gen_found (rows_of (found_of matches.now)) }
+    ensures width { IfSome result (λ asked. IsWidth asked.width) }
+    ensures differ { IfSome result (λ asked. asked.zero.now ≢ asked.one.now) }
+{
+    let width = width(matches)?;
+    let master = needed_seed(matches, "master")?;
+    let tag = tag(matches)?;
+    let (strings, zero, one) = names(matches)?;
     Some(GenAsked {
-        width: width as u8,
+        width,
         master,
         tag,
         strings,
@@ -75,52 +85,18 @@ fn read_gen_values<'a>(
     })
 }
 
-// `gen`, its two first options, and three names from a place on.
-fn read_gen_form(words: &[String], tag: Option<u64>, place: usize) -> Option<GenAsked<'_>>
-    requires long { 5 ≤ length words.now }
-    requires names { place + 2 < length words.now }
-    ensures value { option_map (λ a. record { width = a.width; master = a.master; tag = a.tag; strings = a.strings.now; zero = a.zero.now; one = a.one.now }) result
-        ≡ gen_form (map string_bytes words.now) tag place }
-    ensures width { IfSome result (λ a. (1 ≤ a.width) × (a.width ≤ 32)) }
-    ensures differ { IfSome result (λ a. a.zero.now ≢ a.one.now) }
+/// The words of `gen`, the command first. Where they give no settings, the error is `Usage`; `Memory` is want of memory.
+pub fn read_gen(alloc: Global, words: &[String]) -> Result<GenAsked<'_>, WordsError>
+    ensures reads { Reads gen_seen (gen_words (map string_bytes words.now)) result }
+    ensures width { IfOk result (λ asked. IsWidth asked.width) }
+    ensures differ { IfOk result (λ asked. asked.zero.now ≢ asked.one.now) }
 {
-    if words[0].as_str() != "gen"
-        || words[1].as_str() != "--width"
-        || words[3].as_str() != "--master"
-    {
-        return None;
-    }
-    read_gen_values(
-        words[2].as_str(),
-        words[4].as_str(),
-        tag,
-        words[place].as_str(),
-        words[place + 1].as_str(),
-        words[place + 2].as_str(),
-    )
-}
-
-// The tag of the option at a place, where it is that option.
-fn read_tag(words: &[String], place: usize) -> Option<u64>
-    requires long { place + 1 < length words.now }
-    ensures value { result ≡ tag_at (map string_bytes words.now) place }
-{
-    if words[place].as_str() != "--tag" {
-        return None;
-    }
-    read_number(words[place + 1].as_str(), 0, 18446744073709551615)
-}
-
-/// The words of `gen`, the command first.
-pub fn read_gen(words: &[String]) -> Option<GenAsked<'_>>
-    ensures value { option_map (λ a. record { width = a.width; master = a.master; tag = a.tag; strings = a.strings.now; zero = a.zero.now; one = a.one.now }) result
-        ≡ gen_words (map string_bytes words.now) }
-    ensures width { IfSome result (λ a. (1 ≤ a.width) × (a.width ≤ 32)) }
-    ensures differ { IfSome result (λ a. a.zero.now ≢ a.one.now) }
-{
-    match words.len() {
-        8 => read_gen_form(words, Some(0), 5),
-        10 => read_gen_form(words, read_tag(words, 5), 7),
-        _ => None,
+    let Some(words) = behind(words, "gen") else {
+        return Err(WordsError::Usage);
+    };
+    let matches = found(gen_command(alloc)?, words)?;
+    match gen_asked(&matches) {
+        Some(asked) => Ok(asked),
+        None => Err(WordsError::Usage),
     }
 }

@@ -1,7 +1,7 @@
 //! Values read from single words: a side, a prefix, a name.
 //! Each call is the reading of its name in specs/Values.antt.
 
-ghost use Rattle.std.specs.Prelude.{◌≡◌, ◌≤◌, length};
+ghost use Rattle.std.specs.Prelude.{◌≡◌, ◌≤◌, length, IfSome};
 ghost use Rattle.std.specs.List.{list_all};
 ghost use Rattle.command_words.specs.Values.{side_of, prefix_of, is_name, bits_of_digits, is_digit, number_in, seed_of};
 
@@ -48,12 +48,11 @@ pub(crate) fn read_prefix(word: &str) -> Option<Prefix>
     bits_of(digits)
 }
 
-/// Whether a positional word is a name: not empty, and not beginning with a dash.
+/// Whether a word is a name, which is not empty.
 pub(crate) fn is_name(word: &str) -> bool
     ensures value { result ≡ is_name word.now }
 {
-    let bytes = word.as_bytes();
-    !bytes.is_empty() && bytes[0] != 45
+    !word.is_empty()
 }
 
 // Whether each byte is a decimal digit.
@@ -72,6 +71,7 @@ fn are_digits(bytes: &[u8]) -> bool
 #[tactic(auto, using(crate::proofs::NumberSteps::number_steps))]
 pub(crate) fn read_number(word: &str, least: u64, most: u64) -> Option<u64>
     ensures value { result ≡ number_in least most word.now }
+    ensures within { IfSome result (λ number. (least ≤ number) × (number ≤ most)) }
 {
     let digits = word.as_bytes();
     if digits.is_empty() || digits.len() > 20 || !are_digits(digits) {

@@ -1,8 +1,9 @@
 //! What a search for the frequent strings is told beside the strings.
 //! Width, threshold, cap and the seeds decide what is answered and sent; the others only how the work is divided.
 
-ghost use Rattle.std.specs.Prelude.{◌≡◌, ◌*◌};
+ghost use Rattle.std.specs.Prelude.{◌≡◌, ◌*◌, ◌≤◌, ◌^◌, ℕ};
 ghost use Rattle.prefix_bits.specs.declared.TheConstants.{MOST_BITS};
+ghost use Rattle.pair_run.specs.Plans.{HasFewTiles};
 ghost use Rattle.pair_run.specs.Ranges.{AreInRange};
 ghost use Rattle.pair_run.specs.Rules.{rules_of};
 ghost use Rattle.file_find.specs.Walks.{settings_for};
@@ -56,12 +57,14 @@ pub(crate) fn pair_settings(rules: &FindRules) -> PairSettings
     }
 }
 
-/// The settings of the walk.
+/// The settings of the walk, in tiles of 64 reports by 64 candidates. So many reports as a file can hold are few enough for these.
 pub(crate) fn walk_settings(rules: &FindRules) -> WalkSettings
     requires rules { IsInRange rules.now }
     ensures bits { result.bits ≡ 8 * rules.now.width }
     ensures range { AreInRange MOST_BITS result }
     ensures rules { rules_of result ≡ settings_for rules.now }
+    ensures work { (result.workers ≡ rules.now.workers) × (result.drill ≡ rules.now.drill) }
+    ensures tiles { (reports : ℕ) → reports ≤ 2 ^ 21 → HasFewTiles result reports }
 {
     WalkSettings {
         bits: 8 * u16::from(rules.width),

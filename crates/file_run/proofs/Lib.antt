@@ -1,3 +1,3 @@
 pub mod ReadSteps
 pub mod WalkSteps
-mod Bounds
+pub mod Bounds

@@ -1,16 +1,16 @@
 -- How `eval` and `gen` keep their promise, and which command the first word names.
 use Rattle.std.proofs.Common.{◌≡◌, ◌≤◌, ◌⊎◌, inl, inr, ℕ, Bool, true, false, List, Option, None, Some, sym, ap, subst, ◌∙◌, arith}
 use Rattle.std.specs.Prelude.{IfSome, if◌then◌else◌, codes}
-use Rattle.std.specs.Str.{bytes_eq}
 use Rattle.std.specs.FinMap.{get}
 use Rattle.shelf_io.specs.Faults.{Rose}
 use Rattle.shelf_io.specs.Files.{Files}
 use Rattle.shelf_io.specs.Seen.{Outside}
 use Rattle.shelf_io.specs.Texts.{GrewWithin}
-use Rattle.command_words.specs.Settings.{EvalSettings, GenSettings, eval_words, gen_words, word_at}
+use Rattle.command_words.specs.Reading.{is_first}
+use Rattle.command_words.specs.Settings.{EvalSettings, GenSettings, eval_words, gen_words}
 use Rattle.poplar_top.specs.declared.stop.Stop.{Stop}
 use Rattle.poplar_top.specs.declared.stop.Stop.TheVariants as stops
-use Rattle.poplar_top.specs.Commands.{command_of, generates, runs, evaluates}
+use Rattle.poplar_top.specs.Commands.{Command, command_of, generates, runs, finds, makes, evaluates}
 use Rattle.poplar_top.specs.Keeps.{Meets, KeepsOf}
 use Rattle.pair_files.specs.Made.{zero_text, one_text}
 use Rattle.file_gen.specs.declared.errors.GenError.{GenError}
@@ -28,15 +28,40 @@ use Rattle.poplar_top.proofs.TopSteps.{eval_status}
 
 -- ---- the first word
 
--- the first word names `gen`, or neither, where it was compared so
-pub names_gen : (words : List (List ℕ)) (is_gen : Bool) → is_gen ≡ bytes_eq (word_at words 0) (codes "gen") → is_gen ≡ true → command_of words ≡ generates
-names_gen words is_gen g same = ap (λ b. if b then generates else (if bytes_eq (word_at words 0) (codes "run") then runs else evaluates)) (sym g ∙ same)
+-- which command the first word names, by comparing it with one after another
+abbrev by_words : (is_gen is_run is_find is_make : Bool) → Command
+by_words is_gen is_run is_find is_make =
+    if is_gen then generates else if is_run then runs else if is_find then finds else if is_make then makes else evaluates
 
-pub names_neither : (words : List (List ℕ)) (is_gen is_run : Bool) → is_gen ≡ bytes_eq (word_at words 0) (codes "gen") → is_run ≡ bytes_eq (word_at words 0) (codes "run")
-    → is_gen ≡ false → is_run ≡ false → command_of words ≡ evaluates
-names_neither words is_gen is_run g r other another =
-    ap (λ b. if b then generates else (if bytes_eq (word_at words 0) (codes "run") then runs else evaluates)) (sym g ∙ other)
-    ∙ ap (λ b. if b then runs else evaluates) (sym r ∙ another)
+module _ (words : List (List ℕ)) where
+  pub names_gen : (is_gen : Bool) → is_gen ≡ is_first (codes "gen") words → is_gen ≡ true → command_of words ≡ generates
+  names_gen is_gen g is =
+      ap (λ b. by_words b (is_first (codes "run") words) (is_first (codes "find") words) (is_first (codes "make") words)) (sym g ∙ is)
+
+  module _ (is_gen : Bool) (g : is_gen ≡ is_first (codes "gen") words) (no_gen : is_gen ≡ false) (is_run : Bool)
+      (r : is_run ≡ is_first (codes "run") words) where
+    not_gen : command_of words ≡ by_words false (is_first (codes "run") words) (is_first (codes "find") words) (is_first (codes "make") words)
+    not_gen = ap (λ b. by_words b (is_first (codes "run") words) (is_first (codes "find") words) (is_first (codes "make") words)) (sym g ∙ no_gen)
+
+    pub names_run : is_run ≡ true → command_of words ≡ runs
+    names_run is = not_gen ∙ ap (λ b. by_words false b (is_first (codes "find") words) (is_first (codes "make") words)) (sym r ∙ is)
+
+    module _ (no_run : is_run ≡ false) (is_find : Bool) (f : is_find ≡ is_first (codes "find") words) where
+      not_run : command_of words ≡ by_words false false (is_first (codes "find") words) (is_first (codes "make") words)
+      not_run = not_gen ∙ ap (λ b. by_words false b (is_first (codes "find") words) (is_first (codes "make") words)) (sym r ∙ no_run)
+
+      pub names_find : is_find ≡ true → command_of words ≡ finds
+      names_find is = not_run ∙ ap (λ b. by_words false false b (is_first (codes "make") words)) (sym f ∙ is)
+
+      module _ (no_find : is_find ≡ false) (is_make : Bool) (m : is_make ≡ is_first (codes "make") words) where
+        not_find : command_of words ≡ by_words false false false (is_first (codes "make") words)
+        not_find = not_run ∙ ap (λ b. by_words false false b (is_first (codes "make") words)) (sym f ∙ no_find)
+
+        pub names_make : is_make ≡ true → command_of words ≡ makes
+        names_make is = not_find ∙ ap (λ b. by_words false false false b) (sym m ∙ is)
+
+        pub names_none : is_make ≡ false → command_of words ≡ evaluates
+        names_none is = not_find ∙ ap (λ b. by_words false false false b) (sym m ∙ is)
 
 -- ---- the promise of `eval`
 
@@ -133,12 +158,12 @@ module _ (words : List (List ℕ)) (settings : GenSettings) (given : Some settin
 
   pub gen_made_keeps : after.err ≡ before.err → Makes (names_of settings) (pairs_of settings) before.shelf.files after.shelf.files
       → KeepsOf generates words before after 0
-  gen_made_keeps quiet makes =
-      let zeros = zero_text settings.width settings.master settings.tag makes.them in
-      let ones = one_text settings.width settings.master settings.tag makes.them in
-      let are = files_are settings before.shelf.files makes.them makes.are in
+  gen_made_keeps quiet made =
+      let zeros = zero_text settings.width settings.master settings.tag made.them in
+      let ones = one_text settings.width settings.master settings.tag made.them in
+      let are = files_are settings before.shelf.files made.them made.are in
       gen_keeps 0 (made_meets (gen_told settings before.shelf.files) false before after settings.zero zeros settings.one ones
-      (may before.shelf.files zeros ones are) still quiet (written_shelf settings zeros ones before.shelf.files after.shelf.files are makes.holds))
+      (may before.shelf.files zeros ones are) still quiet (written_shelf settings zeros ones before.shelf.files after.shelf.files are made.holds))
       (still_later before.err after.err quiet) (λ e. omega (arith, e))
     where
       may : (files : Option Files) (zeros ones : List ℕ)

@@ -3,7 +3,7 @@ use Rattle.std.proofs.Common.{◌≡◌, inl, ℕ}
 use Rattle.std.specs.Prelude.{Option}
 use Rattle.shelf_io.specs.Files.{Files}
 use Rattle.poplar_top.specs.Outcomes.{Outcome}
-use Rattle.poplar_top.specs.Outcomes.Outcome.{usage, refusal, texts, writes, untold_eval, untold_gen, untold_run, unheard}
+use Rattle.poplar_top.specs.Outcomes.Outcome.{usage, refusal, texts, writes, untold_eval, untold_gen, untold_run, untold_find, unheard}
 use Rattle.poplar_top.specs.Statuses.{ShelfGets}
 
 -- at a status other than 0 every outcome allows it
@@ -15,4 +15,5 @@ shelf_kept (writes zero_name zero_text one_name one_text) status before now othe
 shelf_kept untold_eval status before now other e = e
 shelf_kept untold_gen status before now other e = tt
 shelf_kept untold_run status before now other e = e
+shelf_kept untold_find status before now other e = e
 shelf_kept unheard status before now other e = e

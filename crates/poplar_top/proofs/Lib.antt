@@ -5,6 +5,9 @@ pub mod GenSteps
 pub mod FileSteps
 pub mod MeetSteps
 pub mod CommandSteps
+pub mod UnreadSteps
 pub mod RunSteps
+pub mod FindSteps
 pub mod RunLaws
+pub mod FindLaws
 pub mod StatusLaws

@@ -10,7 +10,7 @@ use Rattle.poplar_top.specs.declared.stop.Stop.{Stop}
 use Rattle.poplar_top.specs.declared.stop.Stop.TheVariants as stops
 use Rattle.poplar_top.specs.Keeps.{Meets, IsLater}
 use Rattle.poplar_top.specs.Outcomes.{Outcome}
-use Rattle.poplar_top.specs.Outcomes.Outcome.{usage, refusal, texts, writes, untold_eval, untold_gen, untold_run, unheard}
+use Rattle.poplar_top.specs.Outcomes.Outcome.{usage, refusal, texts, writes, untold_eval, untold_gen, untold_run, untold_find, unheard}
 use Rattle.poplar_top.specs.Statuses.{IsOwn, MayStand, Stands, Prints, OutGets, TellsUntold, ErrGets, OutFirst, ShelfGets, asks_sinks, is_fault, fault_line}
 use Rattle.poplar_top.specs.Stops.{StopFits, stop_status, stop_line}
 use Rattle.poplar_top.proofs.StatusLaws.{is_no_refusal, refusal_status}
@@ -41,6 +41,7 @@ MayStop (writes zero_name zero_text one_name one_text) stop = StopFits (writes z
 MayStop untold_eval stop = Unit {0}
 MayStop untold_gen stop = Unit {0}
 MayStop untold_run stop = Unit {0}
+MayStop untold_find stop = Unit {0}
 MayStop unheard stop = Unit {0}
 
 pub may_stop : (o : Outcome) (stop : Stop) → StopFits o stop → MayStop o stop
@@ -51,6 +52,7 @@ may_stop (writes zero_name zero_text one_name one_text) stop h = h
 may_stop untold_eval stop h = tt
 may_stop untold_gen stop h = tt
 may_stop untold_run stop h = tt
+may_stop untold_find stop h = tt
 may_stop unheard stop h = tt
 
 -- a reason's status is not 0
@@ -72,6 +74,7 @@ out_kept (writes zero_name zero_text one_name one_text) status taken other = ref
 out_kept untold_eval status taken other = λ _ _ _. refl
 out_kept untold_gen status taken other = refl
 out_kept untold_run status taken other = λ _ _ _. refl
+out_kept untold_find status taken other = λ _ _ _. refl
 out_kept unheard status taken other = λ _ _ _. refl
 
 stop_err : (o : Outcome) (stop : Stop) (before now : Option (List ℕ)) → MayStop o stop → GrewWithin before now (stop_line stop)
@@ -84,6 +87,7 @@ stop_err (writes zero_name zero_text one_name one_text) stop before now may h =
 stop_err untold_eval stop before now may h = untold_line stop before now h
 stop_err untold_gen stop before now may h = made_line stop before now h
 stop_err untold_run stop before now may h = untold_line stop before now h
+stop_err untold_find stop before now may h = untold_line stop before now h
 stop_err unheard stop before now may h = untold_line stop before now h
 
 stop_first : (o : Outcome) (stop : Stop) (out0 out1 err0 err1 : SinkSeen) → MayStop o stop → GrewWithin err0.taken err1.taken (stop_line stop)
@@ -95,6 +99,7 @@ stop_first (writes zero_name zero_text one_name one_text) stop out0 out1 err0 er
 stop_first untold_eval stop out0 out1 err0 err1 may h = tt
 stop_first untold_gen stop out0 out1 err0 err1 may h = tt
 stop_first untold_run stop out0 out1 err0 err1 may h = tt
+stop_first untold_find stop out0 out1 err0 err1 may h = tt
 stop_first unheard stop out0 out1 err0 err1 may h = tt
 
 pub stop_meets : (o : Outcome) (asked : Bool) (before after : Outside) (stop : Stop) → MayStop o stop → Stands o asked before after (stop_status stop)
@@ -120,6 +125,7 @@ MayPrint (writes zero_name zero_text one_name one_text) out err = ⊥
 MayPrint untold_eval out err = Unit {0}
 MayPrint untold_gen out err = ⊥
 MayPrint untold_run out err = Unit {0}
+MayPrint untold_find out err = Unit {0}
 MayPrint unheard out err = Unit {0}
 
 pub may_print : (o : Outcome) (out err : List ℕ) → o ≡ texts out err → MayPrint o out err
@@ -170,6 +176,8 @@ module _ (asked : Bool) (before after : Outside) (status : ℕ) (out err : List 
       record { status = wrote_stands untold_eval status _ _ _ (λ e. inl e) refl wrote; out = prints.nothing; err = untold_text; order = tt; shelf = kept }
   written_meets untold_run may =
       record { status = wrote_stands untold_run status _ _ _ (λ e. inl e) refl wrote; out = prints.nothing; err = untold_text; order = tt; shelf = kept }
+  written_meets untold_find may =
+      record { status = wrote_stands untold_find status _ _ _ (λ e. inl e) refl wrote; out = prints.nothing; err = untold_text; order = tt; shelf = kept }
   written_meets unheard may =
       record { status = wrote_stands unheard status _ _ _ (λ e. inl e) refl wrote; out = prints.nothing; err = untold_text; order = tt; shelf = kept }
 
@@ -184,6 +192,7 @@ MayMake (writes zero_name zero_text one_name one_text) a b c d = writes zero_nam
 MayMake untold_eval a b c d = ⊥
 MayMake untold_gen a b c d = Unit {0}
 MayMake untold_run a b c d = ⊥
+MayMake untold_find a b c d = ⊥
 MayMake unheard a b c d = ⊥
 
 pub may_make : (o : Outcome) (a b c d : List ℕ) → o ≡ writes a b c d → MayMake o a b c d
@@ -214,4 +223,5 @@ made_meets untold_gen asked before after a b c d may out err shelf = record {
   shelf = shelf;
 }
 made_meets untold_run asked before after a b c d may out err shelf = absurd may
+made_meets untold_find asked before after a b c d may out err shelf = absurd may
 made_meets unheard asked before after a b c d may out err shelf = absurd may

@@ -21,7 +21,7 @@ use Rattle.file_run.specs.Hearings.{heard_ending}
 use Rattle.file_run.specs.Keeps.{RunKeeps}
 use Rattle.file_run.specs.Sendings.{SentWhole, SentFront, SentBy, IsUnsent}
 use Rattle.file_run.proofs.WalkSteps.{front}
-use Rattle.command_words.specs.RunSettings.{RunSettings, run_words}
+use Rattle.command_words.specs.Settings.{RunSettings, run_words}
 use Rattle.poplar_top.specs.declared.stop.Stop.TheVariants as stops
 use Rattle.poplar_top.specs.Outcomes.Outcome.{texts, untold_run, unheard}
 use Rattle.poplar_top.specs.RunOutcomes.{run_refused, answered, unheard_answer, rules_asked, files_asked, run_told, run_settled, go_together, run_walks}
@@ -289,14 +289,27 @@ four wrote = wrote_other 4 (λ n. omega (arith, n)) (λ n. omega (arith, n)) (λ
 six : {status : ℕ} {K : Type 0} → Wrote status K → status ≡ 6 → ⊥
 six wrote = wrote_other 6 (λ n. omega (arith, n)) (λ n. omega (arith, n)) (λ n. omega (arith, n)) wrote
 
--- where nothing passed
-unsent_sends : (sets : Settings) (reports : List Report) (before after : LinkSeen) (status : ℕ) → after.talk ≡ before.talk
-    → (status ≡ 3) ⊎ ((status ≡ 4) ⊎ ((status ≡ 6) ⊎ (status ≡ 8))) → WalkSends sets reports before after status
-unsent_sends sets reports before after status same is = record {
-  whole = λ h. absurd (at is h);
+-- where nothing passed, at no status of a walk's end
+pub quiet_sends : (sets : Settings) (reports : List Report) (before after : LinkSeen) (status : ℕ) → after.talk ≡ before.talk
+    → ((status ≡ 0) ⊎ ((status ≡ 5) ⊎ ((status ≡ 9) ⊎ (status ≡ 10))) → ⊥) → WalkSends sets reports before after status
+quiet_sends sets reports before after status same other = record {
+  whole = λ h. absurd (other h);
   front = λ _ ready. subst (λ t. SentPart before.talk t (messages sets reports)) (sym same) (none before.talk);
   nothing = λ _. same;
 }
+  where
+    none : (talk : Option Talk) → SentPart talk talk (messages sets reports)
+    none None = (0, tt)
+    none (Some talk) = (0, sym (append-nil talk.sent) ∙ ap (λ ms. talk.sent ++ ms) (sym (first (messages sets reports))))
+      where
+        first : (ms : List Message) → take 0 ms ≡ []
+        first [] = refl
+        first (m ∷ ms) = refl
+
+-- such statuses
+pub unsent_sends : (sets : Settings) (reports : List Report) (before after : LinkSeen) (status : ℕ) → after.talk ≡ before.talk
+    → (status ≡ 3) ⊎ ((status ≡ 4) ⊎ ((status ≡ 6) ⊎ (status ≡ 8))) → WalkSends sets reports before after status
+unsent_sends sets reports before after status same is = quiet_sends sets reports before after status same (at is)
   where
     at : (status ≡ 3) ⊎ ((status ≡ 4) ⊎ ((status ≡ 6) ⊎ (status ≡ 8))) → (status ≡ 0) ⊎ ((status ≡ 5) ⊎ ((status ≡ 9) ⊎ (status ≡ 10))) → ⊥
     at (inl a) (inl b) = omega (arith, a, b)
@@ -316,16 +329,8 @@ unsent_sends sets reports before after status same is = record {
     at (inr (inr (inr a))) (inr (inr (inl b))) = omega (arith, a, b)
     at (inr (inr (inr a))) (inr (inr (inr b))) = omega (arith, a, b)
 
-    none : (talk : Option Talk) → SentPart talk talk (messages sets reports)
-    none None = (0, tt)
-    none (Some talk) = (0, sym (append-nil talk.sent) ∙ ap (λ ms. talk.sent ++ ms) (sym (first (messages sets reports))))
-      where
-        first : (ms : List Message) → take 0 ms ≡ []
-        first [] = refl
-        first (m ∷ ms) = refl
-
 -- where the walk came to its end
-ended_sends : (sets : Settings) (reports : List Report) (before after : LinkSeen) (status : ℕ)
+pub ended_sends : (sets : Settings) (reports : List Report) (before after : LinkSeen) (status : ℕ)
     → SentWhole sets reports before after → (status ≡ 6 → ⊥) → WalkSends sets reports before after status
 ended_sends sets reports before after status h other = record {
   whole = λ _. h;
@@ -334,7 +339,7 @@ ended_sends sets reports before after status h other = record {
 }
 
 -- where it did not
-stopped_sends : (sets : Settings) (reports : List Report) (before after : LinkSeen) (status : ℕ)
+pub stopped_sends : (sets : Settings) (reports : List Report) (before after : LinkSeen) (status : ℕ)
     → SentFront sets reports before after → (status ≡ 7) ⊎ (status ≡ 8) → WalkSends sets reports before after status
 stopped_sends sets reports before after status h is = record {
   whole = λ other. absurd (at is other);

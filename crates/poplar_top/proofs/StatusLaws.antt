@@ -5,7 +5,7 @@ use Rattle.poplar_top.specs.declared.refusal.Refusal.{Refusal}
 use Rattle.poplar_top.specs.declared.refusal.Refusal.TheVariants.{Missing, TooLong, Header, Cut, LongPrefix, NoStrings, StringsLong, TooMany, LineLong, ZeroByte, Widths, Walk}
 use Rattle.poplar_top.specs.declared.walk_refusal.WalkRefusal.TheVariants.{Cap, PeerMessage, Views}
 use Rattle.poplar_top.specs.Outcomes.{Outcome}
-use Rattle.poplar_top.specs.Outcomes.Outcome.{usage, refusal, texts, writes, untold_eval, untold_gen, untold_run, unheard}
+use Rattle.poplar_top.specs.Outcomes.Outcome.{usage, refusal, texts, writes, untold_eval, untold_gen, untold_run, untold_find, unheard}
 use Rattle.poplar_top.specs.Refusals.{status_of}
 use Rattle.poplar_top.specs.Statuses.{MayStand, Stands, IsOwn, asks_shelf, asks_sinks, is_fault}
 use Rattle.poplar_top.specs.Laws.{IsTold, UsageIsExact, RefusalsAreExact, AnswersAreComplete, ShelfFaultsAreExact, WalkFaultsAreExact, SinkFaultsAreExact}
@@ -43,6 +43,7 @@ two_own (writes zero_name zero_text one_name one_text) h = absurd (omega (arith,
 two_own untold_eval h = absurd (omega (arith, h))
 two_own untold_gen h = absurd (omega (arith, h))
 two_own untold_run h = absurd (omega (arith, h))
+two_own untold_find h = absurd (omega (arith, h))
 two_own unheard h = absurd (omega (arith, h))
 
 usage_only : (o : Outcome) (S L K : Type 0) → MayStand o S L K 2 → o ≡ usage
@@ -76,6 +77,7 @@ own_refusal (writes zero_name zero_text one_name one_text) r told h = absurd (ot
 own_refusal untold_eval r told h = absurd told
 own_refusal untold_gen r told h = absurd told
 own_refusal untold_run r told h = absurd told
+own_refusal untold_find r told h = absurd told
 own_refusal unheard r told h = absurd told
 
 refusal_only : (o : Outcome) (S L K : Type 0) (r : Refusal) → IsTold o → MayStand o S L K (status_of r)
@@ -137,6 +139,7 @@ seven_own (writes zero_name zero_text one_name one_text) h = omega (arith, h)
 seven_own untold_eval h = omega (arith, h)
 seven_own untold_gen h = omega (arith, h)
 seven_own untold_run h = omega (arith, h)
+seven_own untold_find h = omega (arith, h)
 seven_own unheard h = omega (arith, h)
 
 link_only : (o : Outcome) (S L K : Type 0) → MayStand o S L K 7 → L
@@ -159,6 +162,7 @@ six_own (writes zero_name zero_text one_name one_text) h = omega (arith, h)
 six_own untold_eval h = omega (arith, h)
 six_own untold_gen h = omega (arith, h)
 six_own untold_run h = omega (arith, h)
+six_own untold_find h = omega (arith, h)
 six_own unheard h = omega (arith, h)
 
 shelf_only : (o : Outcome) (S L K : Type 0) → MayStand o S L K 6 → IsTrue (asks_shelf o) × S
@@ -181,6 +185,7 @@ ten_own (writes zero_name zero_text one_name one_text) h = omega (arith, h)
 ten_own untold_eval h = omega (arith, h)
 ten_own untold_gen h = omega (arith, h)
 ten_own untold_run h = omega (arith, h)
+ten_own untold_find h = omega (arith, h)
 ten_own unheard h = omega (arith, h)
 
 sink_only : (o : Outcome) (S L K : Type 0) → MayStand o S L K 10 → IsTrue (asks_sinks o) × K

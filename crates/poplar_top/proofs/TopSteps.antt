@@ -17,7 +17,7 @@ use Rattle.poplar_top.specs.declared.stop.Stop.{Stop}
 use Rattle.poplar_top.specs.declared.stop.Stop.TheVariants as stops
 use Rattle.command_words.specs.Settings.{EvalSettings}
 use Rattle.poplar_top.specs.Outcomes.{Outcome, eval_file_outcome, eval_told}
-use Rattle.poplar_top.specs.Outcomes.Outcome.{usage, refusal, texts, writes, untold_eval, untold_gen, untold_run, unheard}
+use Rattle.poplar_top.specs.Outcomes.Outcome.{usage, refusal, texts, writes, untold_eval, untold_gen, untold_run, untold_find, unheard}
 use Rattle.poplar_top.specs.Statuses.{Prints, TellsUntold, TellsMade, ErrGets, OutFirst, MayStand, asks_shelf, fault_line}
 use Rattle.file_eval.specs.Answers.{eval_answer}
 use Rattle.poplar_top.proofs.EvalSteps.{answer_asks}
@@ -168,6 +168,7 @@ shelf_line (writes zero_name zero_text one_name one_text) before now h = ((λ e.
 shelf_line untold_eval before now h = untold_line stops.Shelf before now h
 shelf_line untold_gen before now h = made_line stops.Shelf before now h
 shelf_line untold_run before now h = untold_line stops.Shelf before now h
+shelf_line untold_find before now h = untold_line stops.Shelf before now h
 shelf_line unheard before now h = untold_line stops.Shelf before now h
 
 link_line : (o : Outcome) (before now : Option (List ℕ)) → GrewWithin before now (fault_line 7) → ErrGets o 7 before now
@@ -178,6 +179,7 @@ link_line (writes zero_name zero_text one_name one_text) before now h = ((λ e. 
 link_line untold_eval before now h = untold_line stops.Link before now h
 link_line untold_gen before now h = made_line stops.Link before now h
 link_line untold_run before now h = untold_line stops.Link before now h
+link_line untold_find before now h = untold_line stops.Link before now h
 link_line unheard before now h = untold_line stops.Link before now h
 
 memory_line : (o : Outcome) (before now : Option (List ℕ)) → GrewWithin before now (fault_line 8) → ErrGets o 8 before now
@@ -188,6 +190,7 @@ memory_line (writes zero_name zero_text one_name one_text) before now h = ((λ e
 memory_line untold_eval before now h = untold_line stops.Memory before now h
 memory_line untold_gen before now h = made_line stops.Memory before now h
 memory_line untold_run before now h = untold_line stops.Memory before now h
+memory_line untold_find before now h = untold_line stops.Memory before now h
 memory_line unheard before now h = untold_line stops.Memory before now h
 
 -- what a command tells that has no text, where its reason fits the outcome
@@ -248,6 +251,7 @@ stop_order (writes zero_name zero_text one_name one_text) stop out0 out1 err0 er
 stop_order untold_eval stop out0 out1 err0 err1 fits h = tt
 stop_order untold_gen stop out0 out1 err0 err1 fits h = tt
 stop_order untold_run stop out0 out1 err0 err1 fits h = tt
+stop_order untold_find stop out0 out1 err0 err1 fits h = tt
 stop_order unheard stop out0 out1 err0 err1 fits h = tt
 
 -- out's whole text was written before err's, of which a front was taken

@@ -29,8 +29,8 @@ pub record KeepsOf (command : Command) (words : List (List ℕ)) (before after :
       (walks_of command words before.shelf.files) before after status
   -- The link got just the messages of the walk.
   pub sends : sends_of command words before.shelf.files before.link after.link status
-  -- Only `gen` changes what the shelf holds.
-  pub kept : kept_of command before after
+  -- Only `gen` changes what the shelf holds, and `make` does not ask it.
+  pub kept : kept_of command before after status
   -- No count of faults falls.
   pub later : IsLater before after
   -- OVER A LINK THAT WAS TRUE AND IDLE. The walk ends as its definition does,
@@ -38,7 +38,7 @@ pub record KeepsOf (command : Command) (words : List (List ℕ)) (before after :
       (walks_of command words before.shelf.files) before after status
   -- no message was another than the expected one and no sums differed, told files or not,
   pub agreed : IsTrueAndIdle before.link → status ≢ 9
-  -- and of honest reports the answer is the frequent strings with their counts.
+  -- and the answer is the frequent strings with their counts: in `run` where the reports are honest, in `find` and `make` always.
   pub finds : IsTrueAndIdle before.link → finds_of command words before after status
 
 -- the promise of the command that the first word names

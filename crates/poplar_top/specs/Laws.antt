@@ -1,19 +1,26 @@
 -- What the outcome and the relation of statuses come to: each status of a cause stands exactly for that cause.
-use Rattle.std.specs.Prelude.{◌≡◌, ◌⊎◌, ◌++◌, ℕ, List, Bool, false, IsTrue, Some, Ok, length}
+use Rattle.std.specs.Prelude.{◌≡◌, ◌⊎◌, ◌++◌, ◌*◌, ◌-◌, ◌≤◌, ◌<◌, ℕ, List, Bool, false, IsTrue, Some, Ok, length}
 use Rattle.shelf_io.specs.Faults.{Rose}
 use Rattle.shelf_io.specs.Seen.{Outside}
 use Rattle.walk_definitions.specs.Reports.{Report}
-use Rattle.walk_definitions.specs.Walk.{Settings, Heavy, done, capped, walk}
+use Rattle.walk_definitions.specs.Walk.{Settings, Heavy, End, done, capped, ending, walk}
+use Rattle.walk_definitions.specs.Heavy.{heavy}
+use Rattle.walk_laws.specs.LastLevel.{EndsOnce}
 use Rattle.pair_run.specs.Keeps.{IsOwnEnd}
 use Rattle.answer_text.specs.AnswerText.{answer_text, sealed_line}
 use Rattle.file_run.specs.Beginnings.{Both, settings_for, batch_for, refused_for}
-use Rattle.command_words.specs.RunSettings.{RunSettings}
+use Rattle.command_words.specs.Settings.{RunSettings}
 use Rattle.poplar_top.specs.declared.refusal.Refusal.{Refusal}
 use Rattle.poplar_top.specs.declared.refusal.Refusal.TheVariants.{Walk}
 use Rattle.poplar_top.specs.declared.walk_refusal.WalkRefusal.TheVariants.{Cap}
 use Rattle.poplar_top.specs.RunOutcomes.{rules_asked, run_files_outcome}
+use Rattle.std.specs.List.{All}
+use Rattle.definitions.specs.Field.{modulus}
+use Rattle.file_find.specs.declared.rules.FindRules.{FindRules}
+use Rattle.file_find.specs.Answers.{Text, ended}
+use Rattle.poplar_top.specs.FindOutcomes.{search_answered, search_outcome}
 use Rattle.poplar_top.specs.Outcomes.{Outcome}
-use Rattle.poplar_top.specs.Outcomes.Outcome.{usage, refusal, texts, writes, untold_eval, untold_gen, untold_run, unheard}
+use Rattle.poplar_top.specs.Outcomes.Outcome.{usage, refusal, texts, writes, untold_eval, untold_gen, untold_run, untold_find, unheard}
 use Rattle.poplar_top.specs.Refusals.{status_of}
 use Rattle.poplar_top.specs.Statuses.{Stands, asks_shelf, asks_sinks}
 
@@ -22,6 +29,7 @@ abbrev pub IsTold : Outcome → Type 0
 IsTold untold_eval = ⊥
 IsTold untold_gen = ⊥
 IsTold untold_run = ⊥
+IsTold untold_find = ⊥
 IsTold unheard = ⊥
 IsTold usage = Unit {0}
 IsTold (refusal r) = Unit {0}
@@ -90,3 +98,21 @@ pub record TrueRunsAreExact : Type 0 where
       → walk (settings_for (rules_asked settings) both.0.width) (batch_for both) ≡ capped level wanted
       → run_files_outcome (Some walk) settings (Ok both) ≡ refusal (Walk (Cap level wanted))
   pub no_other : (settings : Settings) (batch : List Report) → IsOwnEnd (walk settings batch)
+
+-- ---- searches
+
+-- how a search over strings ends, by the prefixes that at least the threshold of them begin with
+abbrev pub strings_end : FindRules → List (List Bool) → End
+strings_end rules strings =
+    ending rules.cap (λ level. heavy level strings rules.threshold) (λ level. length strings) (8 * rules.width - 1) 1
+
+-- Over a link that was true and idle, what `find` and `make` come to is said by the strings alone: no share, report or key is
+-- named. The end is at the first level that is the last of all, or has no frequent prefix, or has too many of them; it is an
+-- answer at the first two, and the cap at the third.
+pub record TrueSearchesAreExact : Type 0 where
+  pub ends : (text : Text) (rules : FindRules) (strings : List (List Bool)) → 1 ≤ rules.width → 1 ≤ rules.threshold
+      → length strings < modulus → All (λ s. length s ≡ 8 * rules.width) strings
+      → search_outcome text (Some walk) rules (Ok strings) ≡ search_answered (ended text (length strings) (strings_end rules strings))
+  pub once : (rules : FindRules) (strings : List (List Bool)) → 1 ≤ rules.width
+      → EndsOnce (8 * rules.width) rules.cap (λ level. heavy level strings rules.threshold) (λ level. length strings)
+      (strings_end rules strings)

@@ -5,6 +5,9 @@ pub mod Stops
 pub mod RunStops
 pub mod RunOutcomes
 pub mod RunLinks
+pub mod FindStops
+pub mod FindOutcomes
+pub mod FindLinks
 pub mod Commands
 pub mod Laws
 pub mod Keeps

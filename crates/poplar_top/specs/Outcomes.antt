@@ -17,7 +17,7 @@ use Rattle.poplar_top.specs.declared.refusal.Refusal.{Refusal}
 use Rattle.poplar_top.specs.declared.refusal.Refusal.TheVariants.{Missing, TooLong, Header, Cut, LongPrefix, NoStrings, StringsLong, TooMany, LineLong, ZeroByte}
 
 -- The words give no settings; a refusal; the texts of out and of err; two names and the texts that they are to hold; or
--- nothing is said, since the shelf does not tell what `eval`, `gen` or `run` was to read, or since the link does not tell
+-- nothing is said, since the shelf does not tell what `eval`, `gen`, `run` or `find` was to read, or since the link does not tell
 -- what passed on it, so that how the walk of told files ended is not said.
 pub data Outcome : Type 0 where
   usage : Outcome
@@ -27,6 +27,7 @@ pub data Outcome : Type 0 where
   untold_eval : Outcome
   untold_gen : Outcome
   untold_run : Outcome
+  untold_find : Outcome
   unheard : Outcome
 
 -- a refusal of `eval`; a failed shelf and want of memory are no outcome of what is told

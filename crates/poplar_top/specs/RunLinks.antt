@@ -11,7 +11,7 @@ use Rattle.shelf_io.specs.Seen.{LinkSeen, Outside}
 use Rattle.file_run.specs.declared.errors.RunError.{RunError}
 use Rattle.file_run.specs.Beginnings.{Both, settings_for, batch_for, refused_for}
 use Rattle.file_run.specs.Sendings.{SentWhole, SentFront}
-use Rattle.command_words.specs.RunSettings.{RunSettings}
+use Rattle.command_words.specs.Settings.{RunSettings}
 use Rattle.poplar_top.specs.RunOutcomes.{rules_asked, files_asked}
 
 -- By the status of a run whose files go together: where the walk came to its end, the link got just its messages; where the link

@@ -11,7 +11,7 @@ use Rattle.file_run.specs.declared.errors.RunError.TheVariants as runs
 use Rattle.file_run.specs.declared.rules.RunRules.{RunRules}
 use Rattle.file_run.specs.Beginnings.{Both, begun}
 use Rattle.file_run.specs.Answers.{Ending, Answer, run_answer}
-use Rattle.command_words.specs.RunSettings.{RunSettings, run_words}
+use Rattle.command_words.specs.Settings.{RunSettings, run_words}
 use Rattle.poplar_top.specs.declared.refusal.Refusal.TheVariants.{Missing, TooLong, Header, Cut, Widths, Walk}
 use Rattle.poplar_top.specs.declared.walk_refusal.WalkRefusal.TheVariants as refused
 use Rattle.poplar_top.specs.Outcomes.{Outcome}
@@ -55,11 +55,11 @@ unheard_answer (Err e) = run_refused e
 abbrev pub rules_asked : RunSettings → RunRules
 rules_asked settings = record {
   threshold = settings.threshold;
-  workers = 4;
-  uploaders = settings.uploaders;
-  cap = settings.cap;
-  verify = settings.verify;
-  drill = 0;
+  workers = settings.options.workers;
+  uploaders = settings.options.uploaders;
+  cap = settings.options.cap;
+  verify = settings.options.verify;
+  drill = settings.options.drill;
 }
 
 abbrev pub files_asked : RunSettings → Files → Result Both RunError

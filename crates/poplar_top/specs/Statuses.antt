@@ -8,7 +8,7 @@ use Rattle.shelf_io.specs.Seen.{SinkSeen, Outside}
 use Rattle.pair_files.specs.PairFiles.{with_both, HoldFronts}
 use Rattle.shelf_io.specs.Texts.{Grew, GrewWithin}
 use Rattle.poplar_top.specs.Outcomes.{Outcome}
-use Rattle.poplar_top.specs.Outcomes.Outcome.{usage, refusal, texts, writes, untold_eval, untold_gen, untold_run, unheard}
+use Rattle.poplar_top.specs.Outcomes.Outcome.{usage, refusal, texts, writes, untold_eval, untold_gen, untold_run, untold_find, unheard}
 use Rattle.poplar_top.specs.declared.refusal.Refusal.{Refusal}
 use Rattle.poplar_top.specs.Refusals.{status_of, line_of}
 
@@ -21,6 +21,7 @@ IsOwn (writes zero_name zero_text one_name one_text) status = status ≡ 0
 IsOwn untold_eval status = (status ≡ 0) ⊎ (status ≡ 3) ⊎ (status ≡ 4)
 IsOwn untold_gen status = (status ≡ 0) ⊎ (status ≡ 11)
 IsOwn untold_run status = (status ≡ 0) ⊎ (status ≡ 3) ⊎ (status ≡ 4) ⊎ (status ≡ 5) ⊎ (status ≡ 9)
+IsOwn untold_find status = (status ≡ 0) ⊎ (status ≡ 5) ⊎ (status ≡ 9) ⊎ (status ≡ 11)
 IsOwn unheard status = (status ≡ 0) ⊎ (status ≡ 5) ⊎ (status ≡ 9)
 
 -- whether the shelf was asked by then
@@ -32,6 +33,7 @@ asks_shelf (writes zero_name zero_text one_name one_text) = true
 asks_shelf untold_eval = true
 asks_shelf untold_gen = true
 asks_shelf untold_run = true
+asks_shelf untold_find = true
 asks_shelf unheard = true
 
 -- whether the sinks were written by then
@@ -43,6 +45,7 @@ asks_sinks (writes zero_name zero_text one_name one_text) = false
 asks_sinks untold_eval = true
 asks_sinks untold_gen = false
 asks_sinks untold_run = true
+asks_sinks untold_find = true
 asks_sinks unheard = true
 
 -- The status is the outcome's own; or that of an object that was asked by then and whose count rose (of the link, whose
@@ -73,6 +76,7 @@ OutGets (writes zero_name zero_text one_name one_text) status before now = now �
 OutGets untold_eval status before now = status ≢ 0 → status ≢ 8 → status ≢ 10 → now ≡ before
 OutGets untold_gen status before now = now ≡ before
 OutGets untold_run status before now = status ≢ 0 → status ≢ 8 → status ≢ 10 → now ≡ before
+OutGets untold_find status before now = status ≢ 0 → status ≢ 8 → status ≢ 10 → now ≡ before
 OutGets unheard status before now = status ≢ 0 → status ≢ 8 → status ≢ 10 → now ≡ before
 
 -- the line of a status that is no refusal's
@@ -97,6 +101,7 @@ line_at (writes zero_name zero_text one_name one_text) status = fault_line statu
 line_at untold_eval status = fault_line status
 line_at untold_gen status = fault_line status
 line_at untold_run status = fault_line status
+line_at untold_find status = fault_line status
 line_at unheard status = fault_line status
 
 -- err has the whole text on 0, a front of it on 8 and 10, and else none; and behind that a front of the fault's line
@@ -130,6 +135,7 @@ ErrGets (writes zero_name zero_text one_name one_text) status before now =
 ErrGets untold_eval status before now = TellsUntold before now status
 ErrGets untold_gen status before now = TellsMade before now status
 ErrGets untold_run status before now = TellsUntold before now status
+ErrGets untold_find status before now = TellsUntold before now status
 ErrGets unheard status before now = TellsUntold before now status
 ErrGets usage status before now = GrewWithin before now (line_at usage status)
 ErrGets (refusal r) status before now = GrewWithin before now (line_at (refusal r) status)
@@ -151,6 +157,7 @@ OutFirst (writes zero_name zero_text one_name one_text) status out_before out_no
 OutFirst untold_eval status out_before out_now err_before err_now = Unit {0}
 OutFirst untold_gen status out_before out_now err_before err_now = Unit {0}
 OutFirst untold_run status out_before out_now err_before err_now = Unit {0}
+OutFirst untold_find status out_before out_now err_before err_now = Unit {0}
 OutFirst unheard status out_before out_now err_before err_now = Unit {0}
 
 -- What a shelf holds afterwards: as before, but for the two names of `gen`, which hold their texts on 0, and else are as
@@ -165,4 +172,5 @@ ShelfGets (texts out err) status before now = now ≡ before
 ShelfGets untold_eval status before now = now ≡ before
 ShelfGets untold_gen status before now = Unit {0}
 ShelfGets untold_run status before now = now ≡ before
+ShelfGets untold_find status before now = now ≡ before
 ShelfGets unheard status before now = now ≡ before

@@ -5,6 +5,8 @@ use Rattle.shelf_io.specs.declared.refused.Refused.TheVariants.{Failed, Memory a
 use Rattle.poplar_top.specs.declared.stop.Stop.{Stop}
 use Rattle.poplar_top.specs.declared.stop.Stop.TheVariants as stops
 use Rattle.definitions.specs.declared.Side.{Side}
+use Rattle.command_words.specs.declared.words_error.WordsError.{WordsError}
+use Rattle.command_words.specs.declared.words_error.WordsError.TheVariants.{Usage, Memory}
 use Rattle.share_format.specs.declared.file_error.FileError.{FileError}
 use Rattle.share_format.specs.declared.file_error.FileError.TheVariants as errors
 use Rattle.poplar_top.specs.declared.refusal.Refusal.TheVariants.{Missing, TooLong, Header, Cut, LongPrefix, NoStrings, StringsLong, TooMany, LineLong, ZeroByte}
@@ -41,6 +43,11 @@ stop_line stops.Memory = codes "want of memory\n"
 abbrev pub sink_status : Refused → ℕ
 sink_status Failed = 10
 sink_status NoMemory = 8
+
+-- the status of words that give no settings
+abbrev pub words_status : WordsError → ℕ
+words_status Usage = 2
+words_status Memory = 8
 
 -- why a file of a side that is not read whole gives no text
 abbrev pub file_stop : Side → FileError → Stop

@@ -1,7 +1,7 @@
 //! What the clauses of the top calls come to, over the definitions alone: which cause stands behind which status.
 //! Each law is the contract of a function that does nothing.
 
-ghost use Rattle.poplar_top.specs.Laws.{UsageIsExact, RefusalsAreExact, AnswersAreComplete, ShelfFaultsAreExact, WalkFaultsAreExact, SinkFaultsAreExact, TrueRunsAreExact};
+ghost use Rattle.poplar_top.specs.Laws.{UsageIsExact, RefusalsAreExact, AnswersAreComplete, ShelfFaultsAreExact, WalkFaultsAreExact, SinkFaultsAreExact, TrueRunsAreExact, TrueSearchesAreExact};
 
 /// Status 2 stands exactly where the words give no settings, want of memory apart. (Words that give none come to no walk, so the
 /// link is not asked.)
@@ -41,4 +41,11 @@ pub fn walk_faults_are_exact()
 /// `run`, a capped one to its refusal, and a walk has no other end. So status 9 never comes there, and 5 exactly at the cap.
 pub fn true_runs_are_exact()
     ensures runs { TrueRunsAreExact }
+{}
+
+/// Over a link that was true and idle, what `find` and `make` come to is said by the strings alone: the end is at the first level
+/// that is the last of all, has no frequent prefix, or has too many; so 5 comes exactly at the first level below the last whose
+/// frequent prefixes, twice, are more than the cap, and none before it is empty.
+pub fn true_searches_are_exact()
+    ensures searches { TrueSearchesAreExact }
 {}

@@ -2,6 +2,7 @@
 //! Its contract says for every command which text is written and which status may stand.
 #![tactic(auto)]
 
+mod find;
 pub mod laws;
 mod refusal;
 mod run;

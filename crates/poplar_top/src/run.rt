@@ -10,8 +10,8 @@ use crate::walk_refusal::WalkRefusal;
 use file_run::RunError;
 use pair_run::PairError;
 
-// Why a walk without an answer gives no text.
-fn stop_of_walk(error: PairError) -> Stop
+/// Why a walk without an answer gives no text.
+pub(crate) fn stop_of_walk(error: PairError) -> Stop
     ensures value { result ≡ walk_stop error }
 {
     match error {

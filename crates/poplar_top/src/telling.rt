@@ -8,15 +8,19 @@ ghost use Rattle.shelf_io.specs.Texts.{Grew, GrewWithin};
 ghost use Rattle.poplar_top.specs.Refusals.{line_of};
 ghost use Rattle.poplar_top.specs.Outcomes.Outcome.{texts};
 ghost use Rattle.poplar_top.specs.Statuses.{Prints, ErrGets, OutFirst, fault_line};
-ghost use Rattle.poplar_top.specs.Stops.{stop_status, stop_line, sink_status};
+ghost use Rattle.poplar_top.specs.Stops.{stop_status, stop_line, sink_status, words_status};
 
 use crate::refusal::{Refusal, line, status};
 use crate::stop::Stop;
+use command_words::WordsError;
 use shelf_io::{Refused, Sink, write_all};
 use std::alloc::Global;
 
-/// Tells a line, and drops a refusal of that.
-pub(crate) fn tell<E: Sink>(err: &mut E, line: &[u8])
+/// The line that is told where the words give no settings.
+const USAGE: &[u8; 50] = b"usage: poplar eval, gen, run, find, make, upgrade\n";
+
+// Tells a line, and drops a refusal of that.
+fn tell<E: Sink>(err: &mut E, line: &[u8])
     ensures line { GrewWithin (E.taken err.old) (E.taken err.new) line.now }
     ensures later { E.faults err.old ≤ E.faults err.new }
 {
@@ -53,6 +57,24 @@ pub(crate) fn tell_stop<E: Sink>(alloc: Global, err: &mut E, stop: Stop) -> u8
             7
         }
         Stop::Memory => {
+            tell(err, b"want of memory\n");
+            8
+        }
+    }
+}
+
+/// Tells that the words give no settings, or that memory was wanting for them, and gives the status.
+pub(crate) fn tell_unread<E: Sink>(err: &mut E, error: WordsError) -> u8
+    ensures status { result ≡ words_status error }
+    ensures line { GrewWithin (E.taken err.old) (E.taken err.new) (fault_line result) }
+    ensures later { E.faults err.old ≤ E.faults err.new }
+{
+    match error {
+        WordsError::Usage => {
+            tell(err, USAGE);
+            2
+        }
+        WordsError::Memory => {
             tell(err, b"want of memory\n");
             8
         }

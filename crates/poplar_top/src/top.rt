@@ -3,15 +3,18 @@
 
 ghost use Rattle.std.specs.Prelude.{map};
 ghost use Rattle.std.specs.String.{string_bytes};
-ghost use Rattle.shelf_io.specs.Seen.{LinkSeen, SinkSeen, outside, outside_but_link, shelf_and_err};
-ghost use Rattle.poplar_top.specs.Commands.{generates, runs, evaluates};
+ghost use Rattle.shelf_io.specs.Seen.{LinkSeen, ShelfSeen, SinkSeen, outside, outside_but_link, shelf_and_err};
+ghost use Rattle.poplar_top.specs.FindLinks.{outside_but_shelf};
+ghost use Rattle.poplar_top.specs.Commands.{generates, runs, finds, makes, evaluates};
 ghost use Rattle.poplar_top.specs.Keeps.{KeepsOf, Keeps};
 
+use crate::find::{find_rules, make_rules, stop_of_find};
 use crate::run::stop_of_run;
 use crate::stop::{stop_of_eval, stop_of_gen};
-use crate::telling::{tell, tell_stop, write_texts};
-use command_words::{is_command, read_eval, read_gen, read_run};
+use crate::telling::{tell_stop, tell_unread, write_texts};
+use command_words::{is_command, read_eval, read_find, read_gen, read_make, read_run};
 use file_eval::eval_texts;
+use file_find::{find_strings, make_walk};
 use file_gen::make_files;
 use file_run::{RunRules, run_files};
 use pair_files::PairSettings;
@@ -19,9 +22,6 @@ use shelf_io::{Gate, Link, Shelf, Sink};
 use std::alloc::Global;
 use std::sync::Wait;
 use std::thread::Threads;
-
-/// The line that is told where the words give no settings.
-const USAGE: &[u8; 50] = b"usage: poplar eval, gen, run, find, make, upgrade\n";
 
 /// `eval SIDE PREFIX FILE`, the command first: the value of each report of a side's share file at a prefix, one line each on out,
 /// and a line on err for each malformed record. The statuses: 0, the whole answer was written; 2, the words give no settings; 3,
@@ -41,9 +41,9 @@ pub fn eval_file<H: Shelf, K: Sink, E: Sink>(
         (outside_but_link H.Shelf K.Sink E.Sink shelf.old out.old err.old link)
         (outside_but_link H.Shelf K.Sink E.Sink shelf.new out.new err.new link) result }
 {
-    let Some(asked) = read_eval(words) else {
-        tell(err, USAGE);
-        return 2;
+    let asked = match read_eval(alloc, words) {
+        Ok(asked) => asked,
+        Err(error) => return tell_unread(err, error),
     };
     match eval_texts(alloc, asked.side, &asked.prefix, asked.file, shelf) {
         Ok(written) => write_texts(out, err, &written.out, &written.err),
@@ -68,9 +68,9 @@ pub fn gen_files<H: Shelf, E: Sink>(
         (shelf_and_err H.Shelf E.Sink shelf.old err.old out link)
         (shelf_and_err H.Shelf E.Sink shelf.new err.new out link) result }
 {
-    let Some(asked) = read_gen(words) else {
-        tell(err, USAGE);
-        return 2;
+    let asked = match read_gen(alloc, words) {
+        Ok(asked) => asked,
+        Err(error) => return tell_unread(err, error),
     };
     let settings = PairSettings {
         width: asked.width,
@@ -105,21 +105,72 @@ fn run_command<R: Threads + Wait + Sync, H: Shelf, K: Sink, E: Sink, L: Link, G:
         (outside H.Shelf K.Sink E.Sink L.Link shelf.old out.old err.old link.old)
         (outside H.Shelf K.Sink E.Sink L.Link shelf.new out.new err.new link.new) result }
 {
-    let Some(asked) = read_run(words) else {
-        tell(err, USAGE);
-        return 2;
+    let asked = match read_run(alloc, words) {
+        Ok(asked) => asked,
+        Err(error) => return tell_unread(err, error),
     };
     let rules = RunRules {
         threshold: asked.threshold,
-        workers: 4,
-        uploaders: asked.uploaders,
-        cap: asked.cap,
-        verify: asked.verify,
-        drill: 0,
+        workers: asked.options.workers,
+        uploaders: asked.options.uploaders,
+        cap: asked.options.cap,
+        verify: asked.options.verify,
+        drill: asked.options.drill,
     };
     match run_files(rt, alloc, asked.zero, asked.one, &rules, shelf, link, gate) {
         Ok(texts) => write_texts(out, err, &texts.out, &texts.err),
         Err(error) => tell_stop(alloc, err, stop_of_run(error)),
+    }
+}
+
+// `find`, the command first: the frequent strings of a strings file, by a walk over the link.
+fn find_command<R: Threads + Wait + Sync, H: Shelf, K: Sink, E: Sink, L: Link, G: Gate>(
+    rt: &R,
+    alloc: Global,
+    words: &[String],
+    shelf: &mut H,
+    out: &mut K,
+    err: &mut E,
+    link: &mut L,
+    gate: &G,
+) -> u8
+    ensures { KeepsOf finds (map string_bytes words.now)
+        (outside H.Shelf K.Sink E.Sink L.Link shelf.old out.old err.old link.old)
+        (outside H.Shelf K.Sink E.Sink L.Link shelf.new out.new err.new link.new) result }
+{
+    let asked = match read_find(alloc, words) {
+        Ok(asked) => asked,
+        Err(error) => return tell_unread(err, error),
+    };
+    let rules = find_rules(&asked);
+    match find_strings(rt, alloc, asked.strings, &rules, shelf, link, gate) {
+        Ok(texts) => write_texts(out, err, &texts.out, &texts.err),
+        Err(error) => tell_stop(alloc, err, stop_of_find(error)),
+    }
+}
+
+// `make`, the command first: how many strings of the workload are frequent, by a walk over the link. The shelf is not given.
+fn make_command<R: Threads + Wait + Sync, K: Sink, E: Sink, L: Link, G: Gate>(
+    rt: &R,
+    alloc: Global,
+    words: &[String],
+    out: &mut K,
+    err: &mut E,
+    link: &mut L,
+    gate: &G,
+) -> u8
+    ensures { (shelf : ShelfSeen) → KeepsOf makes (map string_bytes words.now)
+        (outside_but_shelf K.Sink E.Sink L.Link shelf out.old err.old link.old)
+        (outside_but_shelf K.Sink E.Sink L.Link shelf out.new err.new link.new) result }
+{
+    let asked = match read_make(alloc, words) {
+        Ok(asked) => asked,
+        Err(error) => return tell_unread(err, error),
+    };
+    let rules = make_rules(&asked);
+    match make_walk(rt, alloc, asked.reports, &rules, link, gate) {
+        Ok(texts) => write_texts(out, err, &texts.out, &texts.err),
+        Err(error) => tell_stop(alloc, err, stop_of_find(error)),
     }
 }
 
@@ -158,6 +209,10 @@ pub fn poplar<R: Threads + Wait + Sync, H: Shelf, K: Sink, E: Sink, L: Link, G: 
         gen_files(alloc, words, shelf, err)
     } else if is_command(words, "run") {
         run_command(rt, alloc, words, shelf, out, err, link, gate)
+    } else if is_command(words, "find") {
+        find_command(rt, alloc, words, shelf, out, err, link, gate)
+    } else if is_command(words, "make") {
+        make_command(rt, alloc, words, out, err, link, gate)
     } else {
         eval_file(alloc, words, shelf, out, err)
     }

@@ -1,0 +1,13 @@
+use Rattle.std.proofs.Common.{codes, refl, ap, ap₂, fold, ◌∙◌}
+use Rattle.std.proofs.lemmas.Result.{IfOk-weaker}
+use Rattle.clap.specs.Words.{app_of, with_rule}
+use Rattle.command_words.specs.Commands.{make_app, plain_app, walk_rules, with_argument}
+use Rattle.command_words.proofs.commands.make_command.Goals as goal
+
+pub returns : goal.returns
+unfolding make_app
+returns c = record {
+  app = IfOk-weaker c.with_walk_options.result _ _ (λ made h.
+      h ∙ ap (λ app. fold with_rule app walk_rules) (c.in_ok-command.ensures.app ∙ ap₂ (fold with_argument) c.plain_command.ensures.app c.as_slice.ensures))
+      c.with_walk_options.ensures.app;
+}

@@ -1,0 +1,7 @@
+use Rattle.std.proofs.Common.{◌≡◌, true, sym, subst}
+use Rattle.clap.specs.Words.{is_simple_and_free}
+use Rattle.command_words.proofs.Simple.{eval_simple}
+use Rattle.command_words.proofs.eval_words.read_eval.Goals as goal
+
+pub found-requires : goal.found-requires
+found-requires c = record { simple = subst (λ app. is_simple_and_free app ≡ true) (sym c.in_ok-eval_command.ensures.app) eval_simple }

@@ -1,4 +1,0 @@
-pub mod Tests
-pub mod Eval
-pub mod Gen
-pub mod Run

@@ -1,4 +1,0 @@
-pub mod Options
-pub mod EvalWords
-pub mod GenWords
-pub mod RunWords
