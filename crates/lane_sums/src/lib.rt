@@ -1,8 +1,7 @@
-//! Sums over lists of elements, place by place and in all: those of a plain loop, by lanes of vectors and wide numbers.
+//! Sums over lists of elements, place by place and in all, as a plain loop of field additions gives them.
 //! Neither call takes memory.
 #![tactic(auto)]
 
-mod lanes;
 mod places;
 #[cfg(test)]
 mod tests;

@@ -1,9 +1,10 @@
 //! Both calls beside plain loops, over lengths 0 to 40 and 1,000, with elements near the modulus.
-//! The plain loops add numbers of 128 bits and divide.
+//! The plain loops add numbers as `definitions` does, by a division.
 
 ghost use Rattle.std.specs.Prelude.{◌≡◌, length, IfOk};
 
 use crate::{add_into, sum};
+use definitions::plain_field;
 use field64::{Fe, MODULUS};
 use std::alloc::{AllocError, Global};
 use std::test::Fail;
@@ -28,20 +29,17 @@ fn elements(alloc: Global, count: usize, start: u64) -> Result<Vec<Fe>, AllocErr
     Ok(made)
 }
 
-fn plain_sum(left: Fe, right: Fe) -> u64 {
-    ((u128::from(left.number()) + u128::from(right.number())) % u128::from(MODULUS)) as u64
-}
-
 /// Whether both calls over so many elements give what plain loops give.
 fn agree(alloc: Global, count: usize) -> Result<bool, AllocError> {
     let before = elements(alloc, count, 3)?;
     let part = elements(alloc, count, 7)?;
     let mut into = elements(alloc, count, 3)?;
     add_into(into.as_mut_slice(), part.as_slice());
-    let places = (0..count).all(|k| into[k].number() == plain_sum(before[k], part[k]));
+    let places = (0..count).all(|k| into[k].number()
+        == plain_field::add(before[k].number(), part[k].number()));
     let mut total = 0u64;
     for x in &part {
-        total = ((u128::from(total) + u128::from(x.number())) % u128::from(MODULUS)) as u64;
+        total = plain_field::add(total, x.number());
     }
     Ok(places && sum(part.as_slice()).number() == total)
 }

@@ -1,5 +1,5 @@
 //! The sum of a list of elements, as one wide number that is reduced once.
-//! An element has less than 64 bits and a slice fewer than 2^63 elements, so the number has room in 128.
+//! A slice has fewer than 2^63 elements of 64 bits, so the number has room in 128.
 
 ghost use Rattle.std.specs.Prelude.{◌≡◌};
 ghost use Rattle.definitions.specs.Field.{total_by};

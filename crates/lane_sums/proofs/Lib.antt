@@ -1,2 +1,0 @@
-mod Fours
-mod Summed
