@@ -7,9 +7,9 @@ ghost use Rattle.file_find.specs.Ranges.{IsInRange};
 
 use crate::errors::FindError;
 use crate::rules::FindRules;
-use crate::strings::strings_of;
 use crate::telling::tell_strings;
 use crate::texts::OutText;
+use file_gen::strings_of;
 use file_run::RunTexts;
 use shelf_io::{Gate, Link, Shelf};
 use std::alloc::Global;

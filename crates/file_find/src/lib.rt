@@ -6,7 +6,6 @@ mod errors;
 mod finding;
 mod making;
 mod rules;
-mod strings;
 mod telling;
 mod texts;
 mod walking;

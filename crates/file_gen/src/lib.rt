@@ -8,3 +8,4 @@ mod strings;
 
 pub use crate::errors::GenError;
 pub use crate::making::make_files;
+pub use crate::strings::strings_of;

@@ -62,9 +62,11 @@ fn whole_file<H: Shelf>(alloc: Global, shelf: &mut H, name: &str) -> Result<Vec<
     }
 }
 
-/// The strings of the strings file of a name, or why there are none, with the causes in their order: the file, its length, its lines.
+/// The strings of the strings file of a name, each padded to the width in bytes, 1 to 32, in the lines' order; or why there are none,
+/// with the causes in their order: the file, its length, its lines. A failed shelf and want of memory may come before. The shelf
+/// holds what it held.
 #[tactic(auto, using(crate::proofs::StringSteps::string_steps))]
-pub(crate) fn strings_of<H: Shelf>(
+pub fn strings_of<H: Shelf>(
     alloc: Global,
     name: &str,
     width: u8,
