@@ -29,31 +29,31 @@ kept_of_shard count number report prefix old new found true all own ok same = λ
       | inr was ↦ all e was
     ]
 
-module _ (side : Side) (shares : List Share) (count : ℕ) where
-  pub one_more : (made : List ShardSeen) (shard : ShardSeen) (number : ℕ) → map plan_of made ≡ map (planned side shares count) (range_with_len 0 number)
-      → plan_of shard ≡ planned side shares count number → map plan_of (made ++ shard ∷ []) ≡ map (planned side shares count) (range_with_len 0 (number + 1))
+module _ (side : Side) (shares : List Share) (most count : ℕ) where
+  pub one_more : (made : List ShardSeen) (shard : ShardSeen) (number : ℕ) → map plan_of made ≡ map (planned side shares most count) (range_with_len 0 number)
+      → plan_of shard ≡ planned side shares most count number → map plan_of (made ++ shard ∷ []) ≡ map (planned side shares most count) (range_with_len 0 (number + 1))
   one_more made shard number all is =
-      map-append plan_of made (shard ∷ []) ∙ (λ i. all i ++ is i ∷ []) ∙ sym (map-range_with_len_more (planned side shares count) 0 number number (omega arith))
+      map-append plan_of made (shard ∷ []) ∙ (λ i. all i ++ is i ∷ []) ∙ sym (map-range_with_len_more (planned side shares most count) 0 number number (omega arith))
 
-  placed : (locks : List (LockId ShardPlan)) (first : ℕ) → plans_of locks ≡ map (planned side shares count) (range_with_len first (length locks))
-      → (place : ℕ) (lock : LockId ShardPlan) → StandsAt locks place lock → lock.plan ≡ planned side shares count (first + place)
+  placed : (locks : List (LockId ShardPlan)) (first : ℕ) → plans_of locks ≡ map (planned side shares most count) (range_with_len first (length locks))
+      → (place : ℕ) (lock : LockId ShardPlan) → StandsAt locks place lock → lock.plan ≡ planned side shares most count (first + place)
   placed [] first h place lock e = cc
   placed (l ∷ ls) first h zero lock e =
       let same : l ≡ lock = cc in
       let at : first ≡ first + zero = omega arith in
-      sym (ap (λ (x : LockId ShardPlan). x.plan) same) ∙ ap (λ (ps : List ShardPlan). get_or ps 0 (planned side shares count first)) h
-      ∙ ap (planned side shares count) at
+      sym (ap (λ (x : LockId ShardPlan). x.plan) same) ∙ ap (λ (ps : List ShardPlan). get_or ps 0 (planned side shares most count first)) h
+      ∙ ap (planned side shares most count) at
   placed (l ∷ ls) first h (suc place) lock e =
       let at : first + 1 + place ≡ first + suc place = omega arith in
-      placed ls (first + 1) (ap (drop 1) h) place lock e ∙ ap (planned side shares count) at
+      placed ls (first + 1) (ap (drop 1) h) place lock e ∙ ap (planned side shares most count) at
 
 -- the locks of a row that was made of these shards
-pub made_shards : (side : Side) (shares : List Share) (count : ℕ) (locks : List (LockId ShardPlan)) (made : List ShardSeen)
-    → plans_of locks ≡ map plan_of made → map plan_of made ≡ map (planned side shares count) (range_with_len 0 count) → (length locks ≡ count) × AreShards side shares locks
-made_shards side shares count locks made plans all =
-    let long : length locks ≡ count = sym (length-map locks (λ (l : LockId ShardPlan). l.plan)) ∙ ap length (plans ∙ all) ∙ length-map-range_with_len (planned side shares count) 0 count in
-    let each = placed side shares (length locks) locks 0 (plans ∙ all ∙ ap (λ n. map (planned side shares n) (range_with_len 0 n)) (sym long)) in
-    (long, λ place lock e. each place lock e ∙ ap (planned side shares (length locks)) (omega arith))
+pub made_shards : (side : Side) (shares : List Share) (most count : ℕ) (locks : List (LockId ShardPlan)) (made : List ShardSeen)
+    → plans_of locks ≡ map plan_of made → map plan_of made ≡ map (planned side shares most count) (range_with_len 0 count) → (length locks ≡ count) × AreShards side shares most locks
+made_shards side shares most count locks made plans all =
+    let long : length locks ≡ count = sym (length-map locks (λ (l : LockId ShardPlan). l.plan)) ∙ ap length (plans ∙ all) ∙ length-map-range_with_len (planned side shares most count) 0 count in
+    let each = placed side shares most (length locks) locks 0 (plans ∙ all ∙ ap (λ n. map (planned side shares most n) (range_with_len 0 n)) (sym long)) in
+    (long, λ place lock e. each place lock e ∙ ap (planned side shares most (length locks)) (omega arith))
 
 module _ {P : Type 0} (E : Type 0) (locks : List (LockId P)) where
   -- passes that are each of these locks

@@ -8,10 +8,11 @@ use Rattle.eval_cache.specs.declared.shard.ShardPlan.{ShardPlan}
 use Rattle.eval_cache.specs.declared.key.Key.{Key}
 use Rattle.eval_cache.specs.Entries.{CacheSeen, node_at, share_at}
 
--- a shared cache: the shares of one side, and the locks of its shards
+-- a shared cache: the shares of one side, how many entries a shard may have, and the locks of its shards
 pub record SharedSeen : Type 0 where
   pub shares : List Share
   pub side : Side
+  pub most : ℕ
   pub locks : List (LockId ShardPlan)
 
 -- one shard: its nodes, its number and how many shards there are
@@ -21,19 +22,19 @@ pub record ShardSeen : Type 0 where
   pub count : ℕ
 
 abbrev pub plan_of : ShardSeen → ShardPlan
-plan_of s = record { side = s.state.side; shares = s.state.shares; number = s.number; count = s.count }
+plan_of s = record { side = s.state.side; shares = s.state.shares; most = s.state.most; number = s.number; count = s.count }
 
--- the plan of the shard of that number, among so many
-abbrev pub planned : Side → List Share → ℕ → ℕ → ShardPlan
-planned side shares count number = record { side = side; shares = shares; number = number; count = count }
+-- the plan of the shard of that number, for at most so many entries, among so many shards
+abbrev pub planned : Side → List Share → ℕ → ℕ → ℕ → ShardPlan
+planned side shares most count number = record { side = side; shares = shares; most = most; number = number; count = count }
 
 -- each entry is of a report that belongs to the shard of that number, among so many
 abbrev pub AreOfShard : ℕ → ℕ → List (Key × Node) → Type 0
 AreOfShard number count entries = (e : Key × Node) → Contains entries e → e.0.report % count ≡ number
 
--- the lock at each place holds the shard of that number
-abbrev pub AreShards : Side → List Share → List (LockId ShardPlan) → Type 0
-AreShards side shares locks = (place : ℕ) (lock : LockId ShardPlan) → StandsAt locks place lock → lock.plan ≡ planned side shares (length locks) place
+-- the lock at each place holds the shard of that number, for at most so many entries
+abbrev pub AreShards : Side → List Share → ℕ → List (LockId ShardPlan) → Type 0
+AreShards side shares most locks = (place : ℕ) (lock : LockId ShardPlan) → StandsAt locks place lock → lock.plan ≡ planned side shares most (length locks) place
 
 -- each node that was found is the evaluated one of the report at its prefix
 abbrev pub AreFound : List Share → Side → ℕ → List (List Bool) → List (Option Node) → Type 0

@@ -32,11 +32,12 @@ impl<'a> Model for Shard<'a> {
     ghost invariant = { λ s. AreOfShard s.number s.count s.state.entries };
 }
 
-/// What stays the same of a shard: the side, its shares, the shard's number and how many shards there are.
+/// What stays the same of a shard: the side, its shares, how many entries it may have, its number and how many shards there are.
 /// No value of it is made: proofs alone see it.
 pub struct ShardPlan {
     pub side: Side,
     pub shares: LinkedList<Share>,
+    pub most: usize,
     pub number: u32,
     pub count: u32,
 }
@@ -64,7 +65,7 @@ impl<'a> Shard<'a> {
         count: u32,
     ) -> Result<Shard<'a>, AllocError>
         requires entries { 0 < entries }
-        ensures plan { IfOk result (λ s. plan_of s ≡ planned side shares.entry.now count number) }
+        ensures plan { IfOk result (λ s. plan_of s ≡ planned side shares.entry.now entries count number) }
     {
         Ok(Shard {
             state: CacheState::new(alloc, shares, side, entries)?,
@@ -133,7 +134,7 @@ pub(crate) fn empty_shards<'a>(
     entries: u32,
 ) -> Result<Vec<Shard<'a>>, AllocError>
     requires entries { 0 < entries }
-    ensures plans { IfOk result (λ made. map plan_of made.items ≡ map (planned side shares.entry.now shards) (range_with_len 0 shards)) }
+    ensures plans { IfOk result (λ made. map plan_of made.items ≡ map (planned side shares.entry.now entries shards) (range_with_len 0 shards)) }
 {
     let mut made = Vec::with_capacity(alloc, shards as usize)?;
     for number in 0..shards {

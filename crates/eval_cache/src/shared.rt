@@ -20,6 +20,7 @@ use std::sync::Wait;
 pub struct EvalCache<'a> {
     shares: &'a [Share],
     side: Side,
+    most: u32,
     row: Row<Shard<'a>>,
 }
 
@@ -29,9 +30,9 @@ impl<'a> Model for EvalCache<'a> {
 
     ghost Value = { SharedSeen };
 
-    ghost view = { λ c. record { shares = c.shares.now; side = c.side; locks = c.row.locks } };
+    ghost view = { λ c. record { shares = c.shares.now; side = c.side; most = c.most; locks = c.row.locks } };
 
-    ghost invariant = { λ c. (0 < length c.row.locks) × AreShards c.side c.shares.now c.row.locks };
+    ghost invariant = { λ c. (0 < length c.row.locks) × AreShards c.side c.shares.now c.most c.row.locks };
 }
 
 impl<'a> EvalCache<'a> {
@@ -50,6 +51,7 @@ impl<'a> EvalCache<'a> {
         requires passes { (0 < passes) × (passes ≤ 4096) }
         ensures shares { IfOk result (λ made. made.0.shares ≡ shares.entry.now) }
         ensures side { IfOk result (λ made. made.0.side ≡ side) }
+        ensures most { IfOk result (λ made. made.0.most ≡ entries) }
         ensures shards { IfOk result (λ made. length made.0.locks ≡ shards) }
         ensures count { IfOk result (λ made. vec_len made.1 ≡ passes) }
         ensures passes { IfOk result (λ made. AllByRecursion (λ pass. pass ≡ made.0.locks) made.1.items) }
@@ -57,7 +59,13 @@ impl<'a> EvalCache<'a> {
         let states = empty_shards(alloc, shares, side, shards, entries)?;
         let (row, rows) = Row::new(alloc, states, passes)?;
         let made = passes_of(alloc, rows)?;
-        Ok((EvalCache { shares, side, row }, made))
+        let cache = EvalCache {
+            shares,
+            side,
+            most: entries,
+            row,
+        };
+        Ok((cache, made))
     }
 
     /// Looks the prefixes of a report up, and says of each in `into`, at its place, what was found: each
@@ -110,7 +118,7 @@ impl<'a> EvalCache<'a> {
     ) -> (Shard<'a>, RowTurn<Shard<'a>>)
         requires this_cache { pass ≡ self.now.locks }
         ensures count { 0 < length self.now.locks }
-        ensures shard { plan_of result.0 ≡ planned self.now.side self.now.shares (length self.now.locks) (report % length self.now.locks) }
+        ensures shard { plan_of result.0 ≡ planned self.now.side self.now.shares self.now.most (length self.now.locks) (report % length self.now.locks) }
         ensures this_cache { turn_locks result.1 ≡ self.now.locks }
         ensures plan { plan_of result.0 ≡ result.1.turn.lock.plan }
         ensures empty { result.1.turn.taken ≡ [] }

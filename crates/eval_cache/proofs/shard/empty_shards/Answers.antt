@@ -9,5 +9,5 @@ loop-number-preserved c =
       search rules,
       search rules,
       ap (map plan_of) c.push_reserved.ensures.items
-          ∙ one_more c.args.side c.args.shares.now c.args.shards c.loop-number.made.items c.in_ok-new.field-0 c.loop-number.number kept.2 c.in_ok-new.ensures.plan,
+          ∙ one_more c.args.side c.args.shares.now c.args.entries c.args.shards c.loop-number.made.items c.in_ok-new.field-0 c.loop-number.number kept.2 c.in_ok-new.ensures.plan,
     )

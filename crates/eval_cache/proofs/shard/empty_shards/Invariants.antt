@@ -6,4 +6,4 @@ use Rattle.eval_cache.proofs.shard.empty_shards.Given as goal
 abbrev pub invariant-loop-number : goal.invariant-loop-number
 invariant-loop-number l =
     (vec_len l.made ≡ l.number) × (l.fn.shards ≤ vec_capacity l.made)
-    × (map plan_of l.made.items ≡ map (planned l.fn.side l.fn.shares l.fn.shards) (range_with_len 0 l.number))
+    × (map plan_of l.made.items ≡ map (planned l.fn.side l.fn.shares l.fn.entries l.fn.shards) (range_with_len 0 l.number))

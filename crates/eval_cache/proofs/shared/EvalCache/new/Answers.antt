@@ -5,14 +5,14 @@ use Rattle.eval_cache.specs.declared.shard.ShardPlan.{ShardPlan}
 use Rattle.eval_cache.proofs.Shards.{made_shards, of_locks}
 use Rattle.eval_cache.proofs.shared.EvalCache.new.Goals as goal
 
-pub invariant_of-result : goal.invariant_of-result
-invariant_of-result c =
-    let made = made_shards c.args.side c.args.shares.now c.args.shards c.in_ok-row.row.locks c.in_ok-states.states.items c.in_ok-row.ensures.plans c.in_ok-states.ensures.plans in
+pub invariant_of-cache : goal.invariant_of-cache
+invariant_of-cache c =
+    let made = made_shards c.args.side c.args.shares.now c.args.entries c.args.shards c.in_ok-row.row.locks c.in_ok-states.states.items c.in_ok-row.ensures.plans c.in_ok-states.ensures.plans in
     (omega (arith, made.0, c.requires.shards), made.1)
 
 pub returns-clause-shards : goal.returns-clause-shards
 returns-clause-shards c =
-    (made_shards c.args.side c.args.shares.now c.args.shards c.in_ok-row.row.locks c.in_ok-states.states.items c.in_ok-row.ensures.plans c.in_ok-states.ensures.plans).0
+    (made_shards c.args.side c.args.shares.now c.args.entries c.args.shards c.in_ok-row.row.locks c.in_ok-states.states.items c.in_ok-row.ensures.plans c.in_ok-states.ensures.plans).0
 
 pub returns-clause-passes : goal.returns-clause-passes
 returns-clause-passes c =
