@@ -1,13 +1,13 @@
 -- What the crate's reading of words comes to, and its list of arguments one by one.
-use Rattle.std.proofs.Common.{◌≡◌, ◌≢◌, ◌≤◌, ◌<◌, ◌+◌, ◌∙◌, ap, ap₂, slice_index_or, true, false, Bool, nat_eq, ℕ, List, [], ◌∷◌, length, Option, Some, None, refl, sym, Result, Ok, Err, IfOk, IfErr, subst, inl, inr, cond, fold, map, take, arith}
-use Rattle.std.specs.Prelude.{◌⊎◌, ◌&&◌}
+use Rattle.std.proofs.Common.{◌≡◌, ◌≢◌, ◌<◌, ◌+◌, ◌∙◌, ap, ap₂, slice_index_or, true, false, Bool, ℕ, List, [], ◌∷◌, length, Some, None, refl, sym, Result, Err, IfOk, subst, inl, inr, fold, take}
+use Rattle.std.specs.Prelude.{◌&&◌}
 use Rattle.std.specs.declared.alloc.AllocError.{AllocError}
 use Rattle.std.proofs.lemmas.Result.{IfOk-weaker}
 use Rattle.std.proofs.lemmas.List.Sums.{fold_more}
 use Rattle.clap.specs.declared.builder.command.Command.{Command}
 use Rattle.command_words.specs.declared.arguments.Argument.{Argument}
 use Rattle.command_words.specs.Commands.{rule_for, with_argument}
-use Rattle.clap.specs.Words.{App, app_of, Row, Rule, Text, Kinds, FailsBy, IsAmong, HasMatchesOf, HasKind, kind_of, is_simple, is_simple_and_free, matches_of, fault_of, rows_of, found_of, with_rule}
+use Rattle.clap.specs.Words.{App, app_of, Row, Rule, Text, Kinds, IsAmong, HasMatchesOf, HasKind, kind_of, is_simple, is_simple_and_free, matches_of, fault_of, rows_of, found_of, with_rule}
 use Rattle.clap.specs.declared.parser.matches.ArgMatches.{ArgMatches}
 use Rattle.clap.specs.declared.error.Error.{Error}
 use Rattle.clap.specs.declared.error.kind.ErrorKind.TheVariants.{OutOfMemory}

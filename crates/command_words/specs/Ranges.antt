@@ -1,5 +1,5 @@
 -- The ranges of the settings' values.
-use Rattle.std.specs.Prelude.{◌≤◌, ◌<◌, ◌≢◌, ℕ, List}
+use Rattle.std.specs.Prelude.{◌≤◌, ◌<◌, ℕ}
 use Rattle.definitions.specs.Field.{modulus}
 use Rattle.command_words.specs.declared.walk_options.WalkOptions.{WalkOptions}
 

@@ -1,14 +1,12 @@
 -- A phase that is carried, with what both sides found.
-use Rattle.std.proofs.Common.{◌≡◌, ℕ, suc, ◌+◌, ◌<◌, ◌≤◌, Bool, true, false, List, [], ◌∷◌, ◌++◌, length, Option, Some, None, refl, sym, ◌∙◌, ap, subst}
+use Rattle.std.proofs.Common.{◌≡◌, ℕ, suc, ◌≤◌, Bool, true, false, List, [], ◌∷◌, ◌++◌, length, None, refl, sym, ◌∙◌, ap, subst}
 use Rattle.std.specs.Global.{Vec}
 use Rattle.std.specs.Prelude.{if◌then◌else◌, nat_eq, map}
 use Rattle.std.proofs.lemmas.Bool.{false≢true}
 use Rattle.definitions.specs.declared.Side.TheVariants.{Zero, One}
-use Rattle.definitions.specs.Field.{add}
 use Rattle.definitions.specs.Evaluation.{Node}
 use Rattle.walk_definitions.specs.Reports.{Report}
 use Rattle.walk_definitions.specs.Walk.{Heavy, End, done, survivors, children, goes_on, stopped}
-use Rattle.walk_definitions.specs.Heard.{paired}
 use Rattle.core_definitions.specs.Phase as phase
 use Rattle.core_definitions.specs.Phase.{CoreSettings, CacheEntry, Half, HalfKept, Posting, plain_node, values_of_tiles, first_unposted, AreTrue}
 use Rattle.core_definitions.specs.System as system
@@ -26,7 +24,7 @@ use Rattle.interleaving_core.specs.Events.{events_of}
 use Rattle.interleaving_core.specs.Systems.{seen}
 use Rattle.interleaving_core.specs.Sides.{walking_at, AreSides, AreComplete, HasEnded, carried_at}
 use Rattle.interleaving_core.specs.Walks.{begun_at}
-use Rattle.interleaving_core.specs.Phases.{sums_in, totals_in, IsFound, IsCarriedOn, carried_to, HasCount, IsCarried, IsCut}
+use Rattle.interleaving_core.specs.Phases.{sums_in, totals_in, IsFound, IsCarriedOn, carried_to, HasCount, IsCarried}
 use Rattle.interleaving_core.proofs.Completion.{none-left}
 
 -- ---- nothing happens to a system that ended

@@ -1,9 +1,7 @@
 -- Each tile of a side is posted exactly where no lowest one is left.
-use Rattle.std.proofs.Common.{◌≡◌, ℕ, zero, suc, ◌+◌, ◌<◌, ◌≤◌, Bool, true, false, Option, Some, None, refl, sym, ◌∙◌, ap, subst, inl, inr, arith}
-use Rattle.std.specs.Prelude.{if◌then◌else◌, nat_lt, nat_eq}
-use Rattle.std.proofs.lemmas.Bool.{lt-ltb, cases_lt}
+use Rattle.std.proofs.Common.{◌≡◌, ℕ, zero, suc, ◌<◌, ◌≤◌, Option, Some, None, refl, sym, ◌∙◌, ap, inl, inr, arith}
+use Rattle.std.proofs.lemmas.Bool.{cases_lt}
 use Rattle.definitions.specs.declared.Side.{Side}
-use Rattle.tile_claims.specs.Lists.{once_below}
 use Rattle.tile_claims.specs.Plans as plans
 use Rattle.core_definitions.specs.Phase as phase
 use Rattle.core_definitions.specs.Phase.{CoreSettings, Phase, first_unposted, unposted, posted_count}
@@ -11,7 +9,7 @@ use Rattle.core_definitions.specs.Tiles.{tiles}
 use Rattle.core_definitions.proofs.Hands.{unposted-some, unposted-none}
 use Rattle.phase_state.specs.Logs.{EachOnce}
 use Rattle.half_events.specs.declared.halves.Half.{Half}
-use Rattle.half_events.specs.Halves.{IsHalf, half_seen}
+use Rattle.half_events.specs.Halves.{IsHalf}
 use Rattle.half_events.proofs.Sides.{tiles-are}
 use Rattle.half_events.proofs.Workers.{posts-is}
 use Rattle.phase_state.proofs.Marks.{below_is, below_not}

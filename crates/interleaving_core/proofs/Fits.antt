@@ -1,10 +1,10 @@
 -- Each phase of a walk meets what a phase asks of its plan.
-use Rattle.std.proofs.Common.{◌≡◌, ℕ, suc, ◌+◌, ◌-◌, ◌*◌, ◌<◌, ◌≤◌, ◌^◌, List, [], ◌∷◌, length, sym, ◌∙◌, ap, subst, arith}
+use Rattle.std.proofs.Common.{◌≡◌, ℕ, suc, ◌+◌, ◌*◌, ◌<◌, ◌≤◌, ◌^◌, List, [], ◌∷◌, length, arith}
 use Rattle.std.specs.List.{All, AllByRecursion}
 use Rattle.std.proofs.lemmas.Nat.{mul-le}
 use Rattle.core_definitions.specs.Phase.{CoreSettings, ArePlaces}
 use Rattle.half_events.specs.Settings.{AreUsable}
-use Rattle.half_events.specs.Stages.{StageSeen, IsStage}
+use Rattle.half_events.specs.Stages.{IsStage}
 use Rattle.interleaving_core.specs.declared.running.Walker.{Walker}
 use Rattle.interleaving_core.specs.Walks.{stage_of}
 use Rattle.interleaving_core.specs.Turns.{IsReady}

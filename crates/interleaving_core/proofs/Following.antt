@@ -1,5 +1,5 @@
 -- After every list of events the system is on the walk, in the words of what is seen.
-use Rattle.std.proofs.Common.{◌≡◌, ℕ, zero, suc, ◌-◌, ◌≤◌, Bool, true, false, List, [], ◌∷◌, length, Option, Some, None, Result, Ok, Err, refl, sym, ◌∙◌, ap, subst, arith}
+use Rattle.std.proofs.Common.{◌≡◌, ℕ, zero, suc, ◌-◌, Bool, true, false, List, [], ◌∷◌, Option, Some, Result, Ok, Err, refl, sym, ◌∙◌, ap, subst, arith}
 use Rattle.std.specs.Prelude.{if◌then◌else◌, IfSome, IfNone, IfOk, map}
 use Rattle.definitions.specs.declared.Side.TheVariants.{Zero, One}
 use Rattle.definitions.specs.Evaluation.{Share}
@@ -14,7 +14,7 @@ use Rattle.half_events.specs.Settings.{AreUsable}
 use Rattle.interleaving_core.specs.declared.events.Event as code
 use Rattle.interleaving_core.specs.Collections.{IsSealed}
 use Rattle.interleaving_core.specs.Events.{events_of}
-use Rattle.interleaving_core.specs.Systems.{SystemSeen, ending_at, seen, named_kind, HasPassed, IsAtPhase, IsOnWalk, FollowsWalk}
+use Rattle.interleaving_core.specs.Systems.{SystemSeen, ending_at, seen, named_kind, IsAtPhase, IsOnWalk, FollowsWalk}
 
 -- ---- the walk's end is an answer or a cap
 

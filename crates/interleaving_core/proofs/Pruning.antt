@@ -20,7 +20,7 @@ use Rattle.interleaving_core.specs.declared.walks.Walked.{Walked}
 use Rattle.interleaving_core.specs.Systems as systems
 use Rattle.interleaving_core.specs.Systems.{Ending, SystemSeen, seen, told_of}
 use Rattle.interleaving_core.specs.Phases.{IsCarriedOn}
-use Rattle.interleaving_core.specs.Turns.{begun_of, IsFit, IsReady, LeadsTo}
+use Rattle.interleaving_core.specs.Turns.{begun_of, IsFit, LeadsTo}
 use Rattle.interleaving_core.proofs.Carries.{run-ended}
 
 module _ (core : CoreSettings) (b : List Report) (f : Frontier) (live : List ℕ) (recorded : List (List ℕ)) (c0 c1 : List CacheEntry) (ns : List ℕ)

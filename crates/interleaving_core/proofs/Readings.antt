@@ -1,5 +1,5 @@
 -- What a state has added up is what is read off the log in the definitions' words.
-use Rattle.std.proofs.Common.{◌≡◌, ℕ, zero, suc, ◌+◌, Bool, List, [], ◌∷◌, length, map, get_or, refl, sym, ◌∙◌, ap, subst, arith}
+use Rattle.std.proofs.Common.{◌≡◌, ℕ, zero, suc, ◌+◌, Bool, List, [], ◌∷◌, length, map, get_or, refl, sym, ◌∙◌, ap, arith}
 use mathlib.Core.Path.{fun_ext}
 use Rattle.std.specs.Prelude.{if◌then◌else◌}
 use Rattle.std.proofs.lemmas.List.{length-map}
@@ -8,7 +8,7 @@ use Rattle.definitions.specs.Field.{add, total_by}
 use Rattle.definitions.specs.Evaluation.{Share, Node, node}
 use Rattle.definitions.specs.Sketch.{Sums, coin}
 use Rattle.definitions.proofs.FieldLaws.{total_by-nil, total_by-cons}
-use Rattle.walk_definitions.specs.Reports.{Report, held}
+use Rattle.walk_definitions.specs.Reports.{Report}
 use Rattle.core_definitions.specs.Tiles.{TilePlan, Placed, numbered, sums_of_tiles, totals_of_tiles, sums_at, total_at, has_candidate, has_report}
 use Rattle.core_definitions.specs.Phase as phase
 use Rattle.core_definitions.specs.Phase.{CoreSettings, Phase, Posting, plan_of, report_at, no_report, no_share, plain_node, values_of_tiles}

@@ -1,5 +1,5 @@
 -- What one event of a phase does, and many.
-use Rattle.std.proofs.Common.{◌≡◌, ◌≢◌, ℕ, ◌+◌, ◌<◌, ◌≤◌, ◌^◌, Bool, true, false, List, [], ◌∷◌, length, Option, Some, None, refl, sym, ◌∙◌, ap, subst, arith}
+use Rattle.std.proofs.Common.{◌≡◌, ◌≢◌, ℕ, ◌+◌, ◌≤◌, Bool, true, false, List, ◌∷◌, length, Option, Some, None, refl, sym, ◌∙◌, ap, subst, arith}
 use Rattle.std.specs.Prelude.{◌↔◌, IsTrue}
 use Rattle.std.proofs.lemmas.Bool.{false≢true}
 use Rattle.definitions.specs.declared.Side.{Side}
@@ -14,7 +14,7 @@ use Rattle.interleaving_core.specs.declared.events.Event.{Event}
 use Rattle.interleaving_core.specs.declared.events.Event.TheVariants.{Upload, Seal, Claim, Abandon, Fill, Evict, Post, Sweep, Carry}
 use Rattle.interleaving_core.specs.declared.sides.Sides.{Sides}
 use Rattle.interleaving_core.specs.Events.{event_of, events_of, IsOfNoSide}
-use Rattle.interleaving_core.specs.Sides.{walking_at, AreSides, HasRoom, AreComplete, IsStepped, IsTaken, HasRun, HasEnded, carried_at}
+use Rattle.interleaving_core.specs.Sides.{walking_at, AreSides, AreComplete, IsStepped, IsTaken, HasRun, HasEnded, carried_at}
 use Rattle.interleaving_core.proofs.Completion.{none-left, all-there}
 
 -- an event of no side's phase but a carry changes nothing

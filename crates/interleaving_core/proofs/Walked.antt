@@ -15,8 +15,8 @@ use Rattle.interleaving_core.specs.declared.events.Event.{Event}
 use Rattle.interleaving_core.specs.declared.running.Walker.{Walker}
 use Rattle.interleaving_core.specs.Events.{events_of}
 use Rattle.interleaving_core.specs.Systems.{seen}
-use Rattle.interleaving_core.specs.Walks.{stage_of, begun_at, IsFirst}
-use Rattle.interleaving_core.specs.Turns.{begun_of, HaveLevels, IsReady, HasTurned}
+use Rattle.interleaving_core.specs.Walks.{begun_at, IsFirst}
+use Rattle.interleaving_core.specs.Turns.{begun_of, HaveLevels, HasTurned}
 
 map-places : {X : Type 0} (f : ℕ → X) (d : X) (at : ℕ) (xs : List X) → ((i : ℕ) → f (at + i) ≡ get_or xs i d) → map f (places at (length xs)) ≡ xs
 map-places f d at [] h = refl

@@ -1,6 +1,6 @@
 -- What collecting leads to.
-use Rattle.std.specs.Prelude.{◌≡◌, ℕ, ◌+◌, ◌<◌, ◌≤◌, List, [], length, Option, Some, None, map}
-use Rattle.std.specs.List.{All, AllByRecursion}
+use Rattle.std.specs.Prelude.{◌≡◌, ◌+◌, ◌<◌, ◌≤◌, List, length}
+use Rattle.std.specs.List.{AllByRecursion}
 use Rattle.walk_definitions.specs.Reports.{Report}
 use Rattle.core_definitions.specs.Phase.{CoreSettings}
 use Rattle.core_definitions.specs.System as system

@@ -1,5 +1,5 @@
 -- Both sides within a phase, and what its events lead to.
-use Rattle.std.specs.Prelude.{◌≡◌, ℕ, ◌+◌, ◌<◌, ◌≤◌, ◌^◌, Bool, true, false, List, [], length}
+use Rattle.std.specs.Prelude.{◌≡◌, ℕ, ◌+◌, ◌<◌, ◌≤◌, ◌^◌, Bool, true, false, List, length}
 use Rattle.definitions.specs.declared.Side.TheVariants.{Zero, One}
 use Rattle.tile_claims.specs.Plans.{tiles_of}
 use Rattle.core_definitions.specs.Phase.{CoreSettings}

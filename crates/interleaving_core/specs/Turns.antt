@@ -1,5 +1,5 @@
 -- A walk from phase to phase.
-use Rattle.std.specs.Prelude.{◌≡◌, ℕ, ◌*◌, ◌<◌, ◌≤◌, ◌^◌, List, length, map}
+use Rattle.std.specs.Prelude.{◌≡◌, ◌*◌, ◌<◌, ◌≤◌, ◌^◌, List, length, map}
 use Rattle.std.specs.List.{All}
 use Rattle.definitions.specs.declared.Side.{Side}
 use Rattle.walk_definitions.specs.Reports.{Report, held}

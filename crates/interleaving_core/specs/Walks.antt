@@ -1,5 +1,5 @@
 -- A walk between two phases.
-use Rattle.std.specs.Prelude.{◌≡◌, ℕ, ◌-◌, List, [], length}
+use Rattle.std.specs.Prelude.{◌≡◌, ◌-◌, List, [], length}
 use Rattle.walk_definitions.specs.Reports.{Report}
 use Rattle.walk_definitions.specs.Walk.{first_candidates}
 use Rattle.core_definitions.specs.Phase as phase

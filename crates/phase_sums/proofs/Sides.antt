@@ -1,7 +1,7 @@
 -- The plain sums and totals of a phase, and what its run leaves.
 use Rattle.std.proofs.Common.{◌≡◌, ℕ, ◌<◌, List, length, get_or, map, refl, sym, ◌∙◌, ap, subst, arith, Option}
 use Rattle.std.proofs.lemmas.List.{get_or-map, get_or_read, length-map}
-use Rattle.definitions.specs.Evaluation.{Share, node}
+use Rattle.definitions.specs.Evaluation.{Share}
 use Rattle.definitions.specs.Sketch.{Sums, coin, correlation, masked, partial_sums}
 use Rattle.definitions.specs.Check.{values_d, values_e}
 use Rattle.shelf_io.specs.Gates.{Rule}

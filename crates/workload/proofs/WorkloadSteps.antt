@@ -1,5 +1,5 @@
 -- The strings of the workload, one after another.
-use Rattle.std.proofs.Common.{◌≡◌, ℕ, suc, zero, ◌+◌, ◌*◌, ◌≤◌, ◌<◌, ◌++◌, Bool, true, false, List, [], ◌∷◌, length, map, replicate, refl, sym, ap, ◌∙◌, arith, length-append}
+use Rattle.std.proofs.Common.{◌≡◌, ℕ, suc, zero, ◌+◌, ◌*◌, ◌≤◌, ◌<◌, ◌++◌, Bool, true, false, List, [], ◌∷◌, length, map, replicate, refl, ap, ◌∙◌, arith, length-append}
 use Rattle.std.specs.Prelude.{nat_lt, ◌-◌}
 use Rattle.std.specs.Bool.{if◌then◌else◌}
 use Rattle.std.specs.List.{All, AllByRecursion, range_with_len}
@@ -8,7 +8,7 @@ use Rattle.std.proofs.lemmas.List.{length-replicate}
 use Rattle.std.proofs.lemmas.List.FromFn.{length-map-range_with_len}
 use Rattle.std.proofs.lemmas.List.Elements.{All-from_recursion}
 use Rattle.prefix_bits.proofs.Bytes.{length-bits_of_bytes}
-use Rattle.text_strings.specs.Lines.{LinesCase, too_many, strings, padded, string_of, share_bytes, most_share_bytes, most_strings}
+use Rattle.text_strings.specs.Lines.{too_many, strings, padded, share_bytes, most_share_bytes, most_strings}
 use Rattle.workload.specs.Workload.{letter, letters, workload_string, workload_strings, workload_case}
 
 -- ---- which counts are refused

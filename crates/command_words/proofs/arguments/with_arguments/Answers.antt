@@ -1,4 +1,3 @@
-use Rattle.std.proofs.Common.{rules}
 use Rattle.clap.specs.Words.{app_of, rule_of}
 use Rattle.command_words.proofs.CrateSteps.{one_more}
 use Rattle.command_words.proofs.arguments.with_arguments.Goals as goal

@@ -1,4 +1,4 @@
-use Rattle.std.proofs.Common.{codes, refl}
+use Rattle.std.proofs.Common.{codes}
 use Rattle.clap.specs.Words.{app_of}
 use Rattle.command_words.specs.Commands.{eval_app, plain_app}
 use Rattle.command_words.proofs.CrateSteps.{given}

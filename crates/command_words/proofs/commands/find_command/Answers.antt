@@ -1,7 +1,7 @@
-use Rattle.std.proofs.Common.{codes, refl, ap, ap₂, fold, ◌∙◌}
+use Rattle.std.proofs.Common.{ap, ap₂, fold, ◌∙◌}
 use Rattle.std.proofs.lemmas.Result.{IfOk-weaker}
-use Rattle.clap.specs.Words.{app_of, with_rule}
-use Rattle.command_words.specs.Commands.{find_app, plain_app, walk_rules, with_argument}
+use Rattle.clap.specs.Words.{with_rule}
+use Rattle.command_words.specs.Commands.{find_app, walk_rules, with_argument}
 use Rattle.command_words.proofs.commands.find_command.Goals as goal
 
 pub returns : goal.returns

@@ -1,4 +1,4 @@
-use Rattle.std.proofs.Common.{◌≡◌, ℕ, ◌+◌, ◌*◌, ◌<◌, ◌≤◌, List, [], ◌∷◌, length, arith}
+use Rattle.std.proofs.Common.{◌≤◌, List, [], ◌∷◌, length, arith}
 use Rattle.std.proofs.lemmas.Nat.{mul-le}
 use Rattle.interleaving_core.specs.declared.events.Event.{Event}
 use Rattle.interleaving_core.specs.declared.events.Event.TheVariants.{Upload, Seal, Claim, Abandon, Fill, Evict, Post, Sweep, Carry}

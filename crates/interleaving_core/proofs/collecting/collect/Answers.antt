@@ -1,6 +1,5 @@
-use Rattle.std.proofs.Common.{◌∷◌, ◌∙◌, ap, subst, arith}
+use Rattle.std.proofs.Common.{◌∷◌, ◌∙◌, ap, arith}
 use Rattle.core_definitions.specs.Phase.{CoreSettings}
-use Rattle.interleaving_core.specs.declared.events.Event.{Event}
 use Rattle.interleaving_core.proofs.Collected.{upload-entered, upload-refused, other-passed, batch-sealed}
 use Rattle.interleaving_core.proofs.collecting.collect.Goals as goal
 

@@ -1,6 +1,6 @@
-use Rattle.std.proofs.Common.{◌≡◌, ℕ, sym, ◌∙◌, ap, subst, ◌++◌, ◌∷◌, []}
+use Rattle.std.proofs.Common.{sym, ◌∙◌, ap, subst, ◌++◌, ◌∷◌, []}
 use Rattle.core_definitions.specs.Phase.{CoreSettings}
-use Rattle.frontier_walk.specs.Outcomes.{Outcome, too_many, outcome_of, pruned, IsCause}
+use Rattle.frontier_walk.specs.Outcomes.{outcome_of, pruned, IsCause}
 use Rattle.interleaving_core.proofs.Pruning.{leads-on, leads-to-answer, leads-to-cap}
 use Rattle.interleaving_core.proofs.running.prune.Goals as goal
 

@@ -1,4 +1,4 @@
-use Rattle.std.proofs.Common.{sym, ap, subst}
+use Rattle.std.proofs.Common.{subst}
 use Rattle.prefix_bits.specs.declared.TheConstants.{MOST_BITS}
 use Rattle.std.specs.Prelude.{IfSome}
 use Rattle.interleaving_core.specs.Collections.{IsSealed}

@@ -1,4 +1,4 @@
-use Rattle.std.proofs.Common.{◌≡◌, ℕ, zero, suc, ◌+◌, List, [], ◌∷◌, ◌++◌, add-one, refl, sym, ◌∙◌, ap, arith}
+use Rattle.std.proofs.Common.{◌≡◌, ℕ, zero, suc, ◌+◌, [], ◌∷◌, ◌++◌, add-one, sym, ◌∙◌, ap, arith}
 use Rattle.core_definitions.specs.System.{places}
 use Rattle.interleaving_core.proofs.walks.all_places.Goals as goal
 
