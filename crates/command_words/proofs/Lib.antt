@@ -1,3 +1,4 @@
 pub mod NumberSteps
 mod CrateSteps
 mod Simple
+mod Exact
