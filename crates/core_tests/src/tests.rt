@@ -3,17 +3,17 @@
 
 ghost use Rattle.std.specs.Prelude.{◌≤◌};
 
-use crate::shares::share_of;
+use crate::shares::equal_roots_share;
 use crate::{Cut, draw_list, leads_to, settings_of, try_events};
 use definitions::Side;
 use interleaving_core::{Event, Kind, System};
 use std::alloc::{AllocError, Global};
 
-// The events of one pair up to the seal.
+// The events of one pair with equal root seeds, up to the seal.
 fn pair_events(alloc: Global) -> Result<Vec<Event>, AllocError> {
     let mut events = Vec::new(alloc);
     for side in [Side::Zero, Side::One] {
-        let share = share_of(alloc, 0, side, false)?;
+        let share = equal_roots_share(alloc, side)?;
         events.push(Event::Upload {
             side,
             pass: 0,
