@@ -1,7 +1,7 @@
-//! A drill of three tiles over the open gate, a held worker and a held uploader that see another one come.
+//! A drill of three tiles over the open gate, a tally behind it, a held worker and a held uploader that see another one come.
 //! Which tiles are left out is worked by hand.
 
-use crate::{DrillGate, Hold, HoldGate};
+use crate::{DrillGate, Hold, HoldGate, TallyGate};
 use definitions::Side;
 use shelf_io::{Gate, OpenGate, Say};
 use std::thread::join;
@@ -17,6 +17,21 @@ fn each_third_tile_is_left_out(rt: HostRuntime) {
     let none = DrillGate { n: 0, inner: &gate };
     assert_eq!(rt; none.at(Side::Zero, 0, 2), Say::Abandon);
     assert_eq!(rt; none.at(Side::Zero, 0, 3), Say::Go);
+}
+
+#[test]
+fn found_nodes_are_added_up(rt: HostRuntime) {
+    let tally = TallyGate::new();
+    let gate = DrillGate { n: 2, inner: &tally };
+    assert_eq!(rt; gate.at(Side::One, 0, 0), Say::Go);
+    gate.found(Side::Zero, 0, 0, 7);
+    gate.found(Side::One, 3, 5, 0);
+    join(
+        &rt,
+        || tally.found(Side::One, 1, 1, 10),
+        || tally.found(Side::Zero, 2, 2, 300),
+    );
+    assert_eq!(rt; tally.seen(), 317);
 }
 
 #[test]

@@ -41,9 +41,10 @@ impl Model for PartRoom {
 }
 
 /// The tile that is at least as wide as any other, each way: the first. Without tiles it is empty.
-fn widest(plan: &TilePlan) -> Tile
+pub fn widest(plan: &TilePlan) -> Tile
     ensures widest { HasRoom plan.now (result.r1 - result.r0) (result.c1 - result.c0) }
     ensures rising { (result.r0 ≤ result.r1) × (result.c0 ≤ result.c1) }
+    ensures within { (result.r1 ≤ plan.now.reports) × (result.c1 ≤ plan.now.candidates) }
 {
     if plan.tiles() > 0 {
         return plan.tile(0);
