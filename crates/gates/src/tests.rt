@@ -22,7 +22,10 @@ fn each_third_tile_is_left_out(rt: HostRuntime) {
 #[test]
 fn found_nodes_are_added_up(rt: HostRuntime) {
     let tally = TallyGate::new();
-    let gate = DrillGate { n: 2, inner: &tally };
+    let gate = DrillGate {
+        n: 2,
+        inner: &tally,
+    };
     assert_eq!(rt; gate.at(Side::One, 0, 0), Say::Go);
     gate.found(Side::Zero, 0, 0, 7);
     gate.found(Side::One, 3, 5, 0);

@@ -44,7 +44,6 @@ impl Model for PartRoom {
 pub fn widest(plan: &TilePlan) -> Tile
     ensures widest { HasRoom plan.now (result.r1 - result.r0) (result.c1 - result.c0) }
     ensures rising { (result.r0 ≤ result.r1) × (result.c0 ≤ result.c1) }
-    ensures within { (result.r1 ≤ plan.now.reports) × (result.c1 ≤ plan.now.candidates) }
 {
     if plan.tiles() > 0 {
         return plan.tile(0);
