@@ -15,5 +15,5 @@ pub use crate::kind::Kind;
 pub use crate::part::Part;
 pub use crate::phase_plan::{PhasePlan, PlanSeen};
 pub use crate::posting::{Posted, Posting};
-pub use crate::room::{PartRoom, widest};
+pub use crate::room::PartRoom;
 pub use crate::state::PhaseState;

@@ -41,7 +41,7 @@ impl Model for PartRoom {
 }
 
 /// The tile that is at least as wide as any other, each way: the first. Without tiles it is empty.
-pub fn widest(plan: &TilePlan) -> Tile
+fn widest(plan: &TilePlan) -> Tile
     ensures widest { HasRoom plan.now (result.r1 - result.r0) (result.c1 - result.c0) }
     ensures rising { (result.r0 ≤ result.r1) × (result.c0 ≤ result.c1) }
 {

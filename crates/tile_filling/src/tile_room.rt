@@ -17,7 +17,7 @@ use eval_cache::{CachePass, EvalCache};
 use field64::Fe;
 use idpf_eval::Node;
 use idpf_lanes::fronts_of;
-use phase_state::{Kind, Part, PhasePlan, widest};
+use phase_state::{Kind, Part, PhasePlan};
 use prefix_bits::Prefix;
 use sketch_check::Sums;
 use std::alloc::{AllocError, Global};
@@ -52,6 +52,17 @@ impl Model for TileRoom {
 
     ghost invariant = { λ r. (vec_len r.coins ≤ vec_capacity r.totals) × (vec_len r.fronts ≡ vec_len r.coins)
         × (vec_len r.places ≡ vec_len r.coins) × (vec_len r.nodes ≡ vec_len r.coins) × (r.room ≡ vec_len r.coins) };
+}
+
+/// The most reports and the most candidates that a tile of the plan has: those of the first, and none where there are no tiles.
+fn most_of(plan: &TilePlan) -> (usize, usize)
+    ensures room { HasRoom plan.now result.0 result.1 }
+{
+    if plan.tiles() == 0 {
+        return (0, 0);
+    }
+    let Tile { r0, r1, c0, c1 } = plan.tile(0);
+    ((r1 - r0) as usize, (c1 - c0) as usize)
 }
 
 /// As many zeros as there are candidates, in a vector with room for them.
@@ -196,10 +207,9 @@ impl TileRoom {
     pub fn new(alloc: Global, plan: &TilePlan) -> Result<TileRoom, AllocError>
         ensures { IfOk result (λ room. HasRoom plan.now room.reports room.candidates) }
     {
-        let Tile { r0, r1, c0, c1 } = widest(plan);
-        let width = (c1 - c0) as usize;
+        let (reports, width) = most_of(plan);
         Ok(TileRoom {
-            sums: Vec::with_capacity(alloc, (r1 - r0) as usize)?,
+            sums: Vec::with_capacity(alloc, reports)?,
             totals: Vec::with_capacity(alloc, width)?,
             coins: vec![in alloc; Fe::zero(); width]?,
             fronts: vec![in alloc; Prefix::empty(); width]?,
