@@ -1,6 +1,6 @@
 //! Room for the nodes of many prefixes of a share, and the three ways to make them.
 
-ghost use Rattle.std.specs.Prelude.{◌≡◌, ◌+◌, ◌-◌, ◌≤◌, length, map, IfOk};
+ghost use Rattle.std.specs.Prelude.{◌≡◌, ◌+◌, ◌-◌, ◌≤◌, ◌<◌, length, map, IfOk};
 ghost use Rattle.definitions.specs.Evaluation.{node as node_of};
 ghost use Rattle.idpf_lanes.specs.Stands.{AreLong, AreFronts, AreFound};
 
@@ -41,6 +41,7 @@ impl NodeBuffers {
     pub fn new(alloc: Global, most: usize) -> Result<NodeBuffers, AllocError>
         ensures room { IfOk result (λ b. most ≤ b) }
         ensures few { IfOk result (λ b. b ≤ most + 1) }
+        ensures own { 0 < most → IfOk result (λ b. b ≡ most) }
     {
         let width = most.max(1);
         let node = Node {

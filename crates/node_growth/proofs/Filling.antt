@@ -24,6 +24,7 @@ pub within_at : (count : ℕ) (steps : List Step) (k : ℕ) (step d : Step) → 
 within_at count steps k step d within h is =
     subst (λ s. s.from < count) (sym (is ∙ get_or_default steps k d no_step h)) (within k h)
 
+-- one function after another
 pub map_of_map : {X Y Z : Type 0} (f : Y → Z) (g : X → Y) (xs : List X) → map f (map g xs) ≡ map (λ x. f (g x)) xs
 map_of_map f g [] = refl
 map_of_map f g (x ∷ xs) = ap (λ zs. f (g x) ∷ zs) (map_of_map f g xs)
