@@ -1,5 +1,5 @@
 -- Where the fronts of prefixes stand in a list, and where their nodes do.
-use Rattle.std.specs.Prelude.{ℕ, ◌<◌, ◌≡◌, Bool, List, [], length, take, slice_index, slice_index_or, Option, None, IfSome}
+use Rattle.std.specs.Prelude.{ℕ, ◌+◌, ◌<◌, ◌≡◌, ◌≢◌, Bool, List, [], length, take, slice_index, slice_index_or, Option, None, IfSome}
 use Rattle.definitions.specs.declared.Side.{Side}
 use Rattle.definitions.specs.Evaluation.{Share, Node, node}
 use Rattle.node_growth.specs.Steps.{no_node}
@@ -24,6 +24,10 @@ pub record AreFronts (depth : ℕ) (prefixes fronts : List (List Bool)) (places 
   pub own : (k : ℕ) → k < length prefixes → slice_index_or fronts (slice_index places k) [] ≡ take depth (slice_index_or prefixes k [])
   -- all fronts have so many bits, those too at which no prefix stands
   pub long : AreLong depth fronts
+
+-- no two of the first fronts that follow one another are equal
+abbrev pub AreApart : ℕ → List (List Bool) → Type 0
+AreApart count fronts = (i : ℕ) → i + 1 < count → slice_index_or fronts i [] ≢ slice_index_or fronts (i + 1) []
 
 -- each node that was found is that of its prefix
 abbrev pub AreFound : Share → Side → List (List Bool) → List (Option Node) → Type 0

@@ -1,7 +1,7 @@
 //! The fronts of prefixes, one bit shorter than they are, each with its place in a list.
 
-ghost use Rattle.std.specs.Prelude.{◌≡◌, ℕ, ◌+◌, ◌-◌, ◌≤◌, ◌<◌, [], length, take, slice_index_or};
-ghost use Rattle.idpf_lanes.specs.Stands.{AreLong, AreFronts};
+ghost use Rattle.std.specs.Prelude.{◌≡◌, ◌≢◌, ℕ, ◌+◌, ◌-◌, ◌≤◌, ◌<◌, [], length, take, slice_index_or};
+ghost use Rattle.idpf_lanes.specs.Stands.{AreLong, AreFronts, AreApart};
 
 use prefix_bits::Prefix;
 
@@ -14,6 +14,7 @@ fn add_front(fronts: &mut [Prefix], made: usize, front: Prefix) -> usize
     ensures some { 0 < result }
     ensures kept { (i : ℕ) → i < made → slice_index_or fronts.new i [] ≡ slice_index_or fronts.old i [] }
     ensures own { slice_index_or fronts.new (result - 1) [] ≡ front }
+    ensures apart { made < result → 0 < made → slice_index_or fronts.new (made - 1) [] ≢ slice_index_or fronts.new made [] }
 {
     if made > 0 && fronts[made - 1] == front {
         return made;
@@ -23,7 +24,8 @@ fn add_front(fronts: &mut [Prefix], made: usize, front: Prefix) -> usize
 }
 
 /// The fronts of prefixes of `level` bits, one bit shorter, into the first places of `fronts`, and for each prefix in `places` the
-/// place of its own. Prefixes with one front that follow one another share its place. How many fronts there are is the result.
+/// place of its own. Prefixes with one front that follow one another share it: no two fronts that follow one another are equal. How
+/// many fronts there are is the result.
 pub fn fronts_of(
     level: u16,
     prefixes: &[Prefix],
@@ -38,6 +40,7 @@ pub fn fronts_of(
     ensures places { length places.new ≡ length prefixes.now }
     ensures count { result ≤ length prefixes.now }
     ensures fronts { AreFronts (level - 1) prefixes.now (take result fronts.new) places.new }
+    ensures apart { AreApart result fronts.new }
 {
     let mut made = 0;
     for k in 0..prefixes.len() {

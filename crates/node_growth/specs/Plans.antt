@@ -1,5 +1,5 @@
 -- Steps that are planned for the prefixes of a list, whose fronts are known by their places in a list of nodes.
-use Rattle.std.specs.Prelude.{ℕ, ◌<◌, ◌≤◌, ◌≡◌, Bool, false, List, [], length, slice_index, slice_index_or}
+use Rattle.std.specs.Prelude.{ℕ, ◌+◌, ◌<◌, ◌≤◌, ◌≡◌, ◌≢◌, Bool, false, List, [], length, slice_index, slice_index_or}
 use Rattle.node_growth.specs.Steps.{Step, no_step}
 
 -- each prefix has more bits than this
@@ -27,5 +27,7 @@ pub record IsPlanned (prefixes : List (List Bool)) (depth parents : ℕ) (before
   pub own : (k : ℕ) → k < upto → slice_index_or steps (slice_index places k) no_step ≡ step_at prefixes depth before k
   -- the places of the other prefixes are as before
   pub rest : (k : ℕ) → upto ≤ k → slice_index places k ≡ slice_index before k
+  -- no two steps that follow one another are equal: prefixes that stand together and share a step have it once
+  pub apart : (i : ℕ) → i + 1 < made → slice_index_or steps i no_step ≢ slice_index_or steps (i + 1) no_step
   -- each step goes from one of the nodes
   pub within : (i : ℕ) → i < made → (slice_index_or steps i no_step).from < parents

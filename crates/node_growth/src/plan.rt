@@ -1,6 +1,6 @@
 //! A plan of one step down for a list of prefixes: which children are made, and which of them is whose.
 
-ghost use Rattle.std.specs.Prelude.{◌≡◌, ℕ, ◌+◌, ◌-◌, ◌≤◌, ◌<◌, length, slice_index_or};
+ghost use Rattle.std.specs.Prelude.{◌≡◌, ◌≢◌, ℕ, ◌+◌, ◌-◌, ◌≤◌, ◌<◌, length, slice_index_or};
 ghost use Rattle.node_growth.specs.Steps.{no_step};
 ghost use Rattle.node_growth.specs.Plans.{AreLonger, AreBelow, IsPlanned};
 
@@ -16,6 +16,7 @@ fn add_step(steps: &mut [Step], made: usize, step: Step) -> usize
     ensures some { 0 < result }
     ensures kept { (i : ℕ) → i < made → slice_index_or steps.new i no_step ≡ slice_index_or steps.old i no_step }
     ensures own { slice_index_or steps.new (result - 1) no_step ≡ step }
+    ensures apart { made < result → 0 < made → slice_index_or steps.new (made - 1) no_step ≢ slice_index_or steps.new made no_step }
 {
     if made > 0 && steps[made - 1] == step {
         return made;

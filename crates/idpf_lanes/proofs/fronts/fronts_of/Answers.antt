@@ -19,7 +19,7 @@ loop-k-preserved c =
           parted_more depth c.args.prefixes.now c.loop-k.fronts c.add_front-made.new.fronts c.loop-k.places c.loop-k.made c.add_front-made.result c.loop-k.k
           (c.add_front-made.result - 1) c.loop-k.invariant.parted (omega arith) c.add_front-made.ensures.low c.add_front-made.ensures.high (omega arith)
           c.add_front-made.ensures.kept (own ∙ ap (take depth) there)
-          (ap length own ∙ length-take-le depth prefix (omega (arith, long)));
+          (ap length own ∙ length-take-le depth prefix (omega (arith, long))) c.add_front-made.ensures.apart;
     }
 
 pub returns-clause-fronts : goal.returns-clause-fronts

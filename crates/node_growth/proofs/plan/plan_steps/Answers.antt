@@ -12,5 +12,6 @@ loop-k-preserved c = record {
       (c.add_step-made.ensures.own
       ∙ step_is c.args.prefixes.now c.args.depth c.args.places.now c.loop-k.k _ c.index-prefixes-k.result c.bit.result (omega arith) c.index-prefixes-k.is c.bit.ensures
       (search (rules, c.loop-k.invariant.planned.rest)))
+      c.add_step-made.ensures.apart
       (search rules);
 }
