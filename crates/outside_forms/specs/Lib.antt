@@ -1,1 +1,2 @@
 pub mod Hollows
+pub mod Twists
