@@ -19,7 +19,7 @@ pub struct WalkOptions {
     pub uploaders: u32,
     /// The most candidates of a level: 2 to 65536, 4096 where no word gives them.
     pub cap: u32,
-    /// The most entries of one shard of a side's cache: 1 to 65536, 4096 where no word gives them. It has no effect yet.
+    /// The most entries of one shard of a side's cache: 1 to 65536, 4096 where no word gives them.
     pub cache: u32,
     /// The seed of the check's randomness, that of zeros where no word gives one.
     pub verify: Seed,

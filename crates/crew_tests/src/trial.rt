@@ -7,7 +7,7 @@ ghost use Rattle.phase_state.specs.Sums.{IsPhasePlan};
 
 use definitions::Sequence;
 use field64::Fe;
-use idpf_eval::{LevelWord, Share, eval_uncounted};
+use idpf_eval::{LevelWord, Node, Share, eval_uncounted};
 use phase_state::{Kind, PhasePlan};
 use prefix_bits::{Prefix, ReportId, Side};
 use seed_expand::Seed;
@@ -29,9 +29,10 @@ pub enum Cut {
     Large,
 }
 
-/// Shares, their places, and the candidates of level 3.
+/// Shares, their places, and the candidates of a level.
 #[derive(Drop)]
 pub struct Trial {
+    pub level: u16,
     pub shares: Vec<Share>,
     pub live: Vec<u32>,
     pub candidates: Vec<Prefix>,
@@ -64,9 +65,10 @@ fn prefix_of(number: u8) -> Prefix {
 }
 
 impl Trial {
-    /// So many reports and candidates.
+    /// So many reports, and candidates of level 3.
     pub fn new(alloc: Global, reports: u8, candidates: u8) -> Result<Trial, AllocError> {
         let mut trial = Trial {
+            level: 3,
             shares: Vec::new(alloc),
             live: Vec::new(alloc),
             candidates: Vec::new(alloc),
@@ -81,11 +83,35 @@ impl Trial {
         Ok(trial)
     }
 
+    /// One report, and both candidates of level 1.
+    pub fn at_the_first_level(alloc: Global) -> Result<Trial, AllocError> {
+        let mut trial = Trial {
+            level: 1,
+            shares: Vec::new(alloc),
+            live: Vec::new(alloc),
+            candidates: Vec::new(alloc),
+        };
+        trial.shares.push(share_of(alloc, 0)?)?;
+        trial.live.push(0)?;
+        trial.candidates.push(Prefix::empty().child(false))?;
+        trial.candidates.push(Prefix::empty().child(true))?;
+        Ok(trial)
+    }
+
+    /// The first share's node at a prefix, by the plain evaluation, where it has so many levels.
+    pub fn first_node(&self, side: Side, prefix: &Prefix) -> Option<Node> {
+        let share = self.shares.first()?;
+        if share.levels.as_slice().len() < usize::from(prefix.len()) {
+            return None;
+        }
+        Some(eval_uncounted(share, side, prefix))
+    }
+
     /// The total at a candidate, by a plain loop.
     pub fn total(&self, side: Side, candidate: &Prefix) -> Fe {
         let mut sum = Fe::zero();
         for share in &self.shares {
-            if candidate.len() == 3 && share.levels.as_slice().len() >= 3 {
+            if share.levels.as_slice().len() >= usize::from(candidate.len()) {
                 sum = sum.add(eval_uncounted(share, side, candidate).d);
             }
         }
@@ -97,9 +123,9 @@ impl Trial {
         let key = CoinKey::of(&VERIFY, &share.id);
         let mut sums = Sums::zero();
         for (place, candidate) in self.candidates.iter().enumerate() {
-            if place < 8 && candidate.len() == 3 && share.levels.as_slice().len() >= 3 {
+            if place < 8 && share.levels.as_slice().len() >= usize::from(candidate.len()) {
                 let node = eval_uncounted(share, side, candidate);
-                sums = sums.with(key.coin(3, place as u32), node.d, node.e);
+                sums = sums.with(key.coin(self.level, place as u32), node.d, node.e);
             }
         }
         sums
@@ -160,9 +186,11 @@ fn are_below(live: &[u32], count: usize) -> bool
     true
 }
 
-/// The plan of a trial at level 3, cut so, where it is one.
+/// The plan of a trial at its level, cut so, where it is one.
 pub fn plan_of(trial: &Trial, side: Side, kind: Kind, cut: Cut) -> Option<PhasePlan<'_>>
-    ensures { IfSome result (λ plan. IsPhasePlan plan) }
+    ensures plan { IfSome result (λ plan. IsPhasePlan plan) }
+    ensures side { IfSome result (λ plan. plan.side ≡ side) }
+    ensures shares { IfSome result (λ plan. plan.shares ≡ trial.now.shares.items) }
 {
     let shares = trial.shares.as_slice();
     let live = trial.live.as_slice();
@@ -170,7 +198,8 @@ pub fn plan_of(trial: &Trial, side: Side, kind: Kind, cut: Cut) -> Option<PhaseP
     if live.len() > 100 || candidates.len() > 8 {
         return None;
     }
-    if !(reach(shares, 3) && are_long(candidates, 3) && are_below(live, shares.len())) {
+    let level = trial.level;
+    if !(reach(shares, level) && are_long(candidates, level) && are_below(live, shares.len())) {
         return None;
     }
     let (reports, count) = (live.len() as u32, candidates.len() as u32);
@@ -182,7 +211,7 @@ pub fn plan_of(trial: &Trial, side: Side, kind: Kind, cut: Cut) -> Option<PhaseP
     Some(PhasePlan {
         side,
         kind,
-        level: 3,
+        level,
         verify: VERIFY,
         shares,
         live,

@@ -12,3 +12,5 @@ pub record IsInRange (rules : RunRules) : Type 0 where
   pub few_uploaders : rules.uploaders ≤ 64
   pub some_cap : 2 ≤ rules.cap
   pub small_cap : rules.cap ≤ 65536
+  pub some_cache : 1 ≤ rules.cache
+  pub small_cache : rules.cache ≤ 65536

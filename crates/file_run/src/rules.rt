@@ -23,6 +23,8 @@ pub struct RunRules {
     pub uploaders: u32,
     /// The most candidates of a level: 2 to 65536.
     pub cap: u32,
+    /// The most nodes of one shard of a side's cache: 1 to 65536.
+    pub cache: u32,
     /// The seed of the check's coins.
     pub verify: Seed,
     /// Which tiles the workers leave to the sweep: each whose number, counted from 1, is a multiple of this; none where it is 0.
@@ -35,9 +37,6 @@ const BY_REPORTS: u32 = 64;
 /// The candidates of a tile.
 const BY_CANDIDATES: u32 = 64;
 
-/// How many nodes a shard of the cache keeps: there is no cache yet, so nothing depends on it.
-const CACHE: u32 = 4096;
-
 /// The settings of the walk over strings of a width in bytes, in tiles of 64 reports by 64 candidates. So many reports as a
 /// file can hold are few enough for these.
 pub(crate) fn walk_settings(rules: &RunRules, width: u8) -> WalkSettings
@@ -46,7 +45,7 @@ pub(crate) fn walk_settings(rules: &RunRules, width: u8) -> WalkSettings
     ensures bits { result.bits ≡ 8 * width }
     ensures range { AreInRange MOST_BITS result }
     ensures rules { rules_of result ≡ settings_for rules.now width }
-    ensures work { (result.workers ≡ rules.now.workers) × (result.drill ≡ rules.now.drill) }
+    ensures work { (result.workers ≡ rules.now.workers) × (result.cache ≡ rules.now.cache) × (result.drill ≡ rules.now.drill) }
     ensures tiles { (reports : ℕ) → reports ≤ 2 ^ 21 → HasFewTiles result reports }
 {
     WalkSettings {
@@ -54,7 +53,7 @@ pub(crate) fn walk_settings(rules: &RunRules, width: u8) -> WalkSettings
         threshold: rules.threshold,
         cap: rules.cap,
         workers: rules.workers,
-        cache: CACHE,
+        cache: rules.cache,
         verify: rules.verify,
         drill: rules.drill,
         by_reports: BY_REPORTS,

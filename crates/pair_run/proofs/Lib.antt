@@ -9,3 +9,4 @@ pub mod Openings
 pub mod LevelParts
 pub mod WalkSteps
 pub mod Keeping
+pub mod HeldCaches

@@ -11,3 +11,4 @@ pub mod Walks
 pub mod Steps
 pub mod Keeps
 pub mod Plans
+pub mod SideCaches

@@ -12,6 +12,7 @@ ghost use Rattle.pair_run.specs.Parts.{GoesOn, whole_level};
 ghost use Rattle.pair_run.specs.Places.{picked};
 ghost use Rattle.pair_run.specs.Plans.{HasFewTiles};
 ghost use Rattle.pair_run.specs.Ranges.{AreInRange};
+ghost use Rattle.pair_run.specs.SideCaches.{HasCaches};
 ghost use Rattle.pair_run.specs.Rules.{rules_of};
 ghost use Rattle.shelf_io.specs.Seen.{link_seen, IsTrueAndIdle};
 ghost use Rattle.pair_run.specs.Talking.{Passed, SentMore, SentPart};
@@ -22,6 +23,7 @@ use crate::opening::open_sums;
 use crate::settings::WalkSettings;
 use crate::totalling::add_totals;
 use field64::Fe;
+use phase_sums::{CacheHold, Caches};
 use prefix_bits::Prefix;
 use report_batch::Batch;
 use shelf_io::{Gate, Link};
@@ -37,7 +39,7 @@ pub struct WalkedLevel {
 }
 
 /// Walks a level, counted from 1, over its candidates and the reports that are live before it.
-pub fn walk_level<R: Threads + Wait + Sync, K: Link, G: Gate>(
+pub fn walk_level<'s, R: Threads + Wait + Sync, K: Link, G: Gate>(
     rt: &R,
     alloc: Global,
     link: &mut K,
@@ -46,6 +48,8 @@ pub fn walk_level<R: Threads + Wait + Sync, K: Link, G: Gate>(
     candidates: &[Prefix],
     batch: &Batch,
     live: &[u32],
+    caches: &Caches<'s>,
+    hold: &mut CacheHold<'s>,
     gate: &G,
 ) -> Result<WalkedLevel, PairError>
     requires first { 1 ≤ level }
@@ -57,6 +61,8 @@ pub fn walk_level<R: Threads + Wait + Sync, K: Link, G: Gate>(
     requires places { All (λ k. k < length batch.now) live.now }
     requires small { length live.now < 2 ^ 27 }
     requires within { length live.now ≤ length batch.now }
+    requires caches { HasCaches batch.now settings.now.workers caches.now hold.old }
+    ensures caches { IfOk result (λ walked. HasCaches batch.now settings.now.workers caches.now hold.new) }
     ensures places { IfOk result (λ walked. All (λ k. k < length batch.now) walked.live.items) }
     ensures small { IfOk result (λ walked. length walked.live.items ≤ length live.now) }
     ensures count { IfOk result (λ walked. length walked.totals.items ≡ length candidates.now) }
@@ -77,11 +83,11 @@ pub fn walk_level<R: Threads + Wait + Sync, K: Link, G: Gate>(
     ensures cause { HasPairCause (K.faults link.old) (K.faults link.new) result }
 {
     let (opened0, opened1) = open_sums(
-        rt, alloc, link, settings, level, candidates, batch, live, gate,
+        rt, alloc, link, settings, level, candidates, batch, live, caches, hold, gate,
     )?;
     let passed = check_reports(alloc, link, level, batch, live, &opened0, &opened1)?;
     let totals = add_totals(
-        rt, alloc, link, settings, level, candidates, batch, &passed, gate,
+        rt, alloc, link, settings, level, candidates, batch, &passed, caches, hold, gate,
     )?;
     Ok(WalkedLevel {
         live: passed,

@@ -17,6 +17,7 @@ ghost use Rattle.pair_run.specs.Parts.{GoesOn, opening};
 ghost use Rattle.pair_run.specs.Places.{picked};
 ghost use Rattle.pair_run.specs.Plans.{HasFewTiles};
 ghost use Rattle.pair_run.specs.Ranges.{AreInRange};
+ghost use Rattle.pair_run.specs.SideCaches.{HasCaches};
 ghost use Rattle.pair_run.specs.Rules.{rules_of};
 ghost use Rattle.shelf_io.specs.Seen.{link_seen, IsTrueAndIdle};
 ghost use Rattle.pair_run.specs.Talking.{Passed, SentMore, SentPart};
@@ -28,7 +29,7 @@ use crate::plans::side_plan;
 use crate::settings::WalkSettings;
 use definitions::Side;
 use phase_state::Kind;
-use phase_sums::both_sums;
+use phase_sums::{CacheHold, Caches, both_sums};
 use prefix_bits::Prefix;
 use report_batch::Batch;
 use shelf_io::{Gate, Link};
@@ -38,7 +39,7 @@ use std::sync::Wait;
 use std::thread::Threads;
 
 /// What both sides open of each live report at a level: side 0's and side 1's.
-pub fn open_sums<R: Threads + Wait + Sync, K: Link, G: Gate>(
+pub fn open_sums<'s, R: Threads + Wait + Sync, K: Link, G: Gate>(
     rt: &R,
     alloc: Global,
     link: &mut K,
@@ -47,6 +48,8 @@ pub fn open_sums<R: Threads + Wait + Sync, K: Link, G: Gate>(
     candidates: &[Prefix],
     batch: &Batch,
     live: &[u32],
+    caches: &Caches<'s>,
+    hold: &mut CacheHold<'s>,
     gate: &G,
 ) -> Result<(Vec<Sums>, Vec<Sums>), PairError>
     requires settings { AreInRange MOST_BITS settings.now }
@@ -57,6 +60,8 @@ pub fn open_sums<R: Threads + Wait + Sync, K: Link, G: Gate>(
     requires places { All (λ k. k < length batch.now) live.now }
     requires small { length live.now < 2 ^ 27 }
     requires within { length live.now ≤ length batch.now }
+    requires caches { HasCaches batch.now settings.now.workers caches.now hold.old }
+    ensures caches { IfOk result (λ opened. HasCaches batch.now settings.now.workers caches.now hold.new) }
     ensures counts { IfOk result (λ opened. (length opened.0.items ≡ length live.now) × (length opened.1.items ≡ length live.now)) }
     ensures goes { IfOk result (λ opened. Passed (K.talk link.old) (K.talk link.new)
         (GoesOn (opening (rules_of settings.now) level candidates.now (picked batch.now live.now)) (opened.0.items, opened.1.items))) }
@@ -74,7 +79,9 @@ pub fn open_sums<R: Threads + Wait + Sync, K: Link, G: Gate>(
         (end_of e ≡ None) × SentPart (K.talk link.old) (K.talk link.new) (both_send 1 level (flat sums0) (flat sums1))) }
     ensures cause { HasPairCause (K.faults link.old) (K.faults link.new) result }
 {
-    let (sums0, sums1) = own_sums(rt, alloc, settings, level, candidates, batch, live, gate)?;
+    let (sums0, sums1) = own_sums(
+        rt, alloc, settings, level, candidates, batch, live, caches, hold, gate,
+    )?;
     let (to0, to1) = exchange_sums(alloc, link, level, &sums0, &sums1)?;
     let opened0 = opened_sums(alloc, &sums0, &to0)?;
     let opened1 = opened_sums(alloc, &sums1, &to1)?;
@@ -82,7 +89,7 @@ pub fn open_sums<R: Threads + Wait + Sync, K: Link, G: Gate>(
 }
 
 /// Both sides' own sums of a batch's live reports, made by a crew a side at once and hidden.
-fn own_sums<R: Threads + Wait + Sync, G: Gate>(
+fn own_sums<'s, R: Threads + Wait + Sync, G: Gate>(
     rt: &R,
     alloc: Global,
     settings: &WalkSettings,
@@ -90,6 +97,8 @@ fn own_sums<R: Threads + Wait + Sync, G: Gate>(
     candidates: &[Prefix],
     batch: &Batch,
     live: &[u32],
+    caches: &Caches<'s>,
+    hold: &mut CacheHold<'s>,
     gate: &G,
 ) -> Result<(Vec<Sums>, Vec<Sums>), PairError>
     requires settings { AreInRange MOST_BITS settings.now }
@@ -100,6 +109,8 @@ fn own_sums<R: Threads + Wait + Sync, G: Gate>(
     requires places { All (λ k. k < length batch.now) live.now }
     requires small { length live.now < 2 ^ 27 }
     requires within { length live.now ≤ length batch.now }
+    requires caches { HasCaches batch.now settings.now.workers caches.now hold.old }
+    ensures caches { IfOk result (λ own. HasCaches batch.now settings.now.workers caches.now hold.new) }
     ensures sums0 { IfOk result (λ own. own.0.items ≡ map (own_sums (rules_of settings.now) level candidates.now Zero) (picked batch.now live.now)) }
     ensures sums1 { IfOk result (λ own. own.1.items ≡ map (own_sums (rules_of settings.now) level candidates.now One) (picked batch.now live.now)) }
     ensures count { IfOk result (λ own. (length own.0.items ≡ length live.now) × (length own.1.items ≡ length live.now)) }
@@ -125,5 +136,5 @@ fn own_sums<R: Threads + Wait + Sync, G: Gate>(
         batch,
         live,
     );
-    Ok(both_sums(rt, alloc, &zero, &one, settings.workers, gate)?)
+    Ok(both_sums(rt, alloc, &zero, &one, settings.workers, caches, hold, gate)?)
 }

@@ -9,6 +9,7 @@ ghost use Rattle.pair_run.specs.Levels.{HaveLevels};
 ghost use Rattle.pair_run.specs.Places.{picked};
 ghost use Rattle.pair_run.specs.Plans.{HasFewTiles};
 ghost use Rattle.pair_run.specs.Ranges.{AreInRange};
+ghost use Rattle.pair_run.specs.SideCaches.{HasCaches};
 ghost use Rattle.pair_run.specs.Rules.{rules_of};
 ghost use Rattle.frontier_walk.specs.Outcomes.{pruned};
 ghost use Rattle.pair_run.specs.Steps.{StepHeard, StepTrue, StepKept, IsOutcome, IsStop};
@@ -21,6 +22,7 @@ use crate::level::{WalkedLevel, walk_level};
 use crate::settings::WalkSettings;
 use definitions::Sequence;
 use frontier_walk::{Frontier, Next};
+use phase_sums::{CacheHold, Caches};
 use report_batch::Batch;
 use shelf_io::{Gate, Link};
 use std::alloc::Global;
@@ -37,7 +39,7 @@ pub enum Step {
 }
 
 /// Walks the frontier's level and prunes it.
-pub fn walk_step<R: Threads + Wait + Sync, K: Link, G: Gate>(
+pub fn walk_step<'s, R: Threads + Wait + Sync, K: Link, G: Gate>(
     rt: &R,
     alloc: Global,
     link: &mut K,
@@ -45,6 +47,8 @@ pub fn walk_step<R: Threads + Wait + Sync, K: Link, G: Gate>(
     batch: &Batch,
     frontier: Frontier,
     live: Vec<u32>,
+    caches: &Caches<'s>,
+    hold: &mut CacheHold<'s>,
     gate: &G,
 ) -> Result<Step, PairError>
     requires bits { frontier.bits ≡ settings.now.bits }
@@ -55,6 +59,8 @@ pub fn walk_step<R: Threads + Wait + Sync, K: Link, G: Gate>(
     requires few { length batch.now < 2 ^ 27 }
     requires places { All (λ k. k < length batch.now) live.items }
     requires within { length live.items ≤ length batch.now }
+    requires caches { HasCaches batch.now settings.now.workers caches.now hold.old }
+    ensures caches { IfOk result (λ step. HasCaches batch.now settings.now.workers caches.now hold.new) }
     ensures kept { IfOk result (StepKept batch.now frontier) }
     ensures heard { IfOk result (StepHeard (rules_of settings.now) batch.now frontier live.items (K.talk link.old) (K.talk link.new)) }
     ensures stops { IfErr result (λ e. IfSome (end_of e) (λ end. Passed (K.talk link.old) (K.talk link.new)
@@ -76,6 +82,8 @@ pub fn walk_step<R: Threads + Wait + Sync, K: Link, G: Gate>(
         frontier.candidates(),
         batch,
         &live,
+        caches,
+        hold,
         gate,
     )?;
     pruned_step(alloc, settings, batch, frontier, walked)

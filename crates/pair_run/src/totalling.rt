@@ -16,6 +16,7 @@ ghost use Rattle.pair_run.specs.Parts.{GoesOn, totalling};
 ghost use Rattle.pair_run.specs.Places.{picked};
 ghost use Rattle.pair_run.specs.Plans.{HasFewTiles};
 ghost use Rattle.pair_run.specs.Ranges.{AreInRange};
+ghost use Rattle.pair_run.specs.SideCaches.{HasCaches};
 ghost use Rattle.shelf_io.specs.Seen.{link_seen, IsTrueAndIdle};
 ghost use Rattle.pair_run.specs.Talking.{Passed, SentMore, SentPart};
 
@@ -27,7 +28,7 @@ use crate::settings::WalkSettings;
 use definitions::Side;
 use field64::Fe;
 use phase_state::Kind;
-use phase_sums::both_totals;
+use phase_sums::{CacheHold, Caches, both_totals};
 use prefix_bits::Prefix;
 use report_batch::Batch;
 use shelf_io::{Gate, Link};
@@ -36,7 +37,7 @@ use std::sync::Wait;
 use std::thread::Threads;
 
 /// The totals of the candidates over the reports that passed.
-pub fn add_totals<R: Threads + Wait + Sync, K: Link, G: Gate>(
+pub fn add_totals<'s, R: Threads + Wait + Sync, K: Link, G: Gate>(
     rt: &R,
     alloc: Global,
     link: &mut K,
@@ -45,6 +46,8 @@ pub fn add_totals<R: Threads + Wait + Sync, K: Link, G: Gate>(
     candidates: &[Prefix],
     batch: &Batch,
     passed: &[u32],
+    caches: &Caches<'s>,
+    hold: &mut CacheHold<'s>,
     gate: &G,
 ) -> Result<Vec<Fe>, PairError>
     requires settings { AreInRange MOST_BITS settings.now }
@@ -55,6 +58,8 @@ pub fn add_totals<R: Threads + Wait + Sync, K: Link, G: Gate>(
     requires places { All (λ k. k < length batch.now) passed.now }
     requires small { length passed.now < 2 ^ 27 }
     requires within { length passed.now ≤ length batch.now }
+    requires caches { HasCaches batch.now settings.now.workers caches.now hold.old }
+    ensures caches { IfOk result (λ totals. HasCaches batch.now settings.now.workers caches.now hold.new) }
     ensures count { IfOk result (λ totals. length totals.items ≡ length candidates.now) }
     ensures goes { IfOk result (λ totals. Passed (K.talk link.old) (K.talk link.new)
         (GoesOn (totalling level candidates.now (picked batch.now passed.now)) totals.items)) }
@@ -71,13 +76,13 @@ pub fn add_totals<R: Threads + Wait + Sync, K: Link, G: Gate>(
     ensures cause { HasPairCause (K.faults link.old) (K.faults link.new) result }
 {
     let (totals0, totals1) = own_totals(
-        rt, alloc, settings, level, candidates, batch, passed, gate,
+        rt, alloc, settings, level, candidates, batch, passed, caches, hold, gate,
     )?;
     agreed_sums(alloc, link, AddedKind::Totals, level, &totals0, &totals1)
 }
 
 /// Both sides' totals over a batch's reports that passed a level, made by a crew a side at once.
-fn own_totals<R: Threads + Wait + Sync, G: Gate>(
+fn own_totals<'s, R: Threads + Wait + Sync, G: Gate>(
     rt: &R,
     alloc: Global,
     settings: &WalkSettings,
@@ -85,6 +90,8 @@ fn own_totals<R: Threads + Wait + Sync, G: Gate>(
     candidates: &[Prefix],
     batch: &Batch,
     passed: &[u32],
+    caches: &Caches<'s>,
+    hold: &mut CacheHold<'s>,
     gate: &G,
 ) -> Result<(Vec<Fe>, Vec<Fe>), PairError>
     requires settings { AreInRange MOST_BITS settings.now }
@@ -95,6 +102,8 @@ fn own_totals<R: Threads + Wait + Sync, G: Gate>(
     requires places { All (λ k. k < length batch.now) passed.now }
     requires small { length passed.now < 2 ^ 27 }
     requires within { length passed.now ≤ length batch.now }
+    requires caches { HasCaches batch.now settings.now.workers caches.now hold.old }
+    ensures caches { IfOk result (λ own. HasCaches batch.now settings.now.workers caches.now hold.new) }
     ensures totals0 { IfOk result (λ own. own.0.items ≡ map (own_total (picked batch.now passed.now) Zero) candidates.now) }
     ensures totals1 { IfOk result (λ own. own.1.items ≡ map (own_total (picked batch.now passed.now) One) candidates.now) }
     ensures count { IfOk result (λ own. (length own.0.items ≡ length candidates.now) × (length own.1.items ≡ length candidates.now)) }
@@ -120,5 +129,5 @@ fn own_totals<R: Threads + Wait + Sync, G: Gate>(
         batch,
         passed,
     );
-    Ok(both_totals(rt, alloc, &zero, &one, settings.workers, gate)?)
+    Ok(both_totals(rt, alloc, &zero, &one, settings.workers, caches, hold, gate)?)
 }

@@ -11,6 +11,7 @@ ghost use Rattle.pair_run.specs.Levels.{HaveLevels};
 ghost use Rattle.pair_run.specs.Places.{picked};
 ghost use Rattle.pair_run.specs.Plans.{HasFewTiles};
 ghost use Rattle.pair_run.specs.Ranges.{AreInRange, HaveBits};
+ghost use Rattle.pair_run.specs.SideCaches.{HasCaches};
 ghost use Rattle.pair_run.specs.Rules.{rules_of};
 ghost use Rattle.pair_run.specs.Steps.{IsAnswer};
 ghost use Rattle.pair_run.specs.Talking.{Passed};
@@ -20,8 +21,10 @@ use crate::answers::{Answer, PairError};
 use crate::places::all_places;
 use crate::settings::WalkSettings;
 use crate::step::{Step, walk_step};
+use definitions::Side;
 use frontier_walk::Frontier;
 use gates::DrillGate;
+use phase_sums::{CacheHold, Caches};
 use report_batch::Batch;
 use shelf_io::{Gate, Link};
 use std::alloc::Global;
@@ -30,8 +33,9 @@ use std::thread::Threads;
 
 /// Walks the batch over the link: at each level both sides send, take, open, check and add. A side's sums and totals are made
 /// by a crew of `workers` threads, both sides' at once, in tiles of `by_reports` by `by_candidates`; each claimed tile is asked
-/// of the gate behind the drill, and what the workers leave out is swept. All else is done by the caller's thread. The promise
-/// depends on none of these. It waits.
+/// of the gate behind the drill, and what the workers leave out is swept. Each side has one cache of evaluated nodes for the whole
+/// walk, of sixteen shards with `cache` nodes each. All else is done by the caller's thread. The promise depends on none of
+/// these. It waits.
 ///
 /// The answer has the strings that at least the threshold of reports hold, ascending, with their counts. The promise is
 /// `WalkKeeps`, between what the link told before and after. On every told link the answer, and each error but `Link` and
@@ -57,8 +61,12 @@ pub fn walk<R: Threads + Wait + Sync, K: Link, G: Gate>(
 {
     let live = all_places(alloc, batch.len() as u32)?;
     let frontier = Frontier::first(alloc, settings.bits, settings.cap)?;
+    let (zero, one) = (batch.shares(Side::Zero), batch.shares(Side::One));
+    let (caches, mut hold) = Caches::new(alloc, zero, one, settings.cache, settings.workers)?;
     let gate = drill(settings, gate);
-    walk_from(rt, alloc, link, settings, batch, frontier, live, &gate)
+    walk_from(
+        rt, alloc, link, settings, batch, &caches, &mut hold, frontier, live, &gate,
+    )
 }
 
 /// The gate of a walk: the one that is given, behind the drill of the settings.
@@ -73,12 +81,14 @@ fn drill<'g, G: Gate>(settings: &WalkSettings, gate: &'g G) -> DrillGate<'g, G>
 }
 
 /// The walk from a frontier's level on.
-fn walk_from<R: Threads + Wait + Sync, K: Link, G: Gate>(
+fn walk_from<'s, R: Threads + Wait + Sync, K: Link, G: Gate>(
     rt: &R,
     alloc: Global,
     link: &mut K,
     settings: &WalkSettings,
     batch: &Batch,
+    caches: &Caches<'s>,
+    hold: &mut CacheHold<'s>,
     frontier: Frontier,
     live: Vec<u32>,
     gate: &G,
@@ -91,6 +101,7 @@ fn walk_from<R: Threads + Wait + Sync, K: Link, G: Gate>(
     requires few { length batch.now < 2 ^ 27 }
     requires places { All (λ k. k < length batch.now) live.items }
     requires within { length live.items ≤ length batch.now }
+    requires caches { HasCaches batch.now settings.now.workers caches.now hold.old }
     ensures answer { IfOk result (IsAnswer frontier batch.now) }
     ensures heard { IfSome (end_reached result) (λ end. Passed (K.talk link.old) (K.talk link.new)
         (EndsSo (rules_of settings.now) frontier (picked batch.now live.items) end)) }
@@ -99,10 +110,14 @@ fn walk_from<R: Threads + Wait + Sync, K: Link, G: Gate>(
         → TrulyEnds (rules_of settings.now) batch.now frontier (K.is_true link.new) (K.talk link.old) (K.talk link.new) (end_reached result) }
     ensures cause { HasPairCause (K.faults link.old) (K.faults link.new) result }
 {
-    match walk_step(rt, alloc, link, settings, batch, frontier, live, gate)? {
+    match walk_step(
+        rt, alloc, link, settings, batch, frontier, live, caches, hold, gate,
+    )? {
         Step::Done(answer) => Ok(answer),
         Step::Further(next, passed) => {
-            walk_from(rt, alloc, link, settings, batch, next, passed, gate)
+            walk_from(
+                rt, alloc, link, settings, batch, caches, hold, next, passed, gate,
+            )
         }
     }
 }

@@ -3,6 +3,7 @@
 
 ghost use Rattle.std.specs.Prelude.{◌≡◌, ◌<◌, ◌≤◌, true, length, IfSome};
 ghost use Rattle.std.specs.List.{All};
+ghost use Rattle.definitions.specs.declared.Side.TheVariants.{Zero};
 ghost use Rattle.phase_state.specs.Sums.{IsPhasePlan};
 
 use idpf_eval::Share;
@@ -86,7 +87,9 @@ fn are_below(live: &[u32], count: usize) -> bool
 
 /// The plan of the phase in tiles of 64 reports by 64 candidates, where it is one.
 pub fn plan_of(input: &Input) -> Option<PhasePlan<'_>>
-    ensures { IfSome result (λ plan. IsPhasePlan plan) }
+    ensures plan { IfSome result (λ plan. IsPhasePlan plan) }
+    ensures side { IfSome result (λ plan. plan.side ≡ Zero) }
+    ensures shares { IfSome result (λ plan. plan.shares ≡ input.now.shares.items) }
 {
     let shares = input.shares.as_slice();
     let live = input.live.as_slice();

@@ -7,7 +7,9 @@ mod input;
 ghost use Rattle.std.specs.Prelude.{◌≤◌, IfOk};
 
 use crate::input::{Input, plan_of};
+use eval_cache::EvalCache;
 use phase_workers::{Crew, run_phase};
+use prefix_bits::Side;
 use shelf_io::OpenGate;
 use std::time::Instant;
 use std::{env, io};
@@ -34,7 +36,9 @@ fn main(rt: HostRuntime) -> io::Result<()> {
         println!(rt; "no plan")?;
         return Ok(());
     };
-    let crew = Crew::new(rt.alloc(), plan, workers)?;
+    let shares = input.shares.as_slice();
+    let (cache, passes) = EvalCache::new(rt.alloc(), shares, Side::Zero, 16, 4096, workers + 1)?;
+    let crew = Crew::new(rt.alloc(), plan, &cache, passes, workers)?;
     let begun = Instant::now(&rt)?;
     let phase = run_phase(&rt, crew, &OpenGate);
     let taken = begun.elapsed(&rt)?.as_millis();

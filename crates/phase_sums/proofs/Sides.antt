@@ -15,6 +15,8 @@ use Rattle.phase_state.specs.Logs.{EachOnce}
 use Rattle.phase_state.specs.Phases.{StateSeen}
 use Rattle.phase_workers.specs.declared.phase.Done.{Done}
 use Rattle.phase_workers.specs.Crews.{IsRun}
+use Rattle.turn_lock.specs.Seen.{LockId}
+use Rattle.eval_cache.specs.declared.shard.ShardPlan.{ShardPlan}
 use Rattle.phase_workers.specs.Seen.{CrewSeen, crew_of}
 use Rattle.phase_sums.specs.SideSums.{hidden_sum, live_totals, IsWhole}
 
@@ -51,9 +53,9 @@ hidden_at plan sums i place share sum e below at within is found =
     ap (λ s. masked s (correlation share.corr plan.level)) plain
 
 -- a crew's run of a plan leaves the whole phase
-pub run_whole : (plan copy : PlanSeen) (crew : CrewSeen) (workers : ℕ) (gate : Option Rule) (done : Done) (finished : StateSeen) → copy ≡ plan
-    → crew ≡ crew_of copy workers → IsRun crew gate done finished → IsWhole plan finished
-run_whole plan copy crew workers gate done finished same is run =
+pub run_whole : (plan copy : PlanSeen) (crew : CrewSeen) (workers : ℕ) (cache : List (LockId ShardPlan)) (gate : Option Rule) (done : Done) (finished : StateSeen) → copy ≡ plan
+    → crew ≡ crew_of copy workers cache → IsRun crew gate done finished → IsWhole plan finished
+run_whole plan copy crew workers cache gate done finished same is run =
     let plan_is : crew.plan ≡ plan = ap (λ (c : CrewSeen). c.plan) is ∙ same in
     record {
       plan_is = run.plan ∙ plan_is;

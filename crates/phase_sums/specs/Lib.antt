@@ -1,1 +1,2 @@
 pub mod SideSums
+pub mod Caches

@@ -2,9 +2,11 @@
 //! They are those of the definitions, however the work is cut and however many work at it.
 #![tactic(auto)]
 
+mod caches;
 mod hiding;
 mod running;
 mod totals;
 
+pub use crate::caches::{CacheHold, Caches};
 pub use crate::hiding::both_sums;
 pub use crate::totals::both_totals;

@@ -17,6 +17,8 @@ use Rattle.phase_state.specs.Phases.{StateSeen}
 use Rattle.phase_state.proofs.Marks.{nat_is, nat_is_not, below_is, below_not}
 use Rattle.phase_workers.specs.Gates.{tells_of, rule_of}
 use Rattle.phase_workers.specs.Crews.{Worked, Swept, posted_by, IsRuled, IsRun}
+use Rattle.turn_lock.specs.Seen.{LockId}
+use Rattle.eval_cache.specs.declared.shard.ShardPlan.{ShardPlan}
 use Rattle.phase_workers.specs.Seen.{crew_of}
 use Rattle.phase_workers.proofs.Together.{posts_append}
 
@@ -75,11 +77,11 @@ told None side plan workers log h = tt
 told (Some r) side plan workers log h = h refl
 
 -- what a run leaves, from what its parts tell
-pub run_is : (plan : PlanSeen) (workers : ℕ) (gate : Option Rule) (side : Side) (count claimed passes swept : ℕ) (log : List Posting) (finished : StateSeen)
+pub run_is : (plan : PlanSeen) (workers : ℕ) (cache : List (LockId ShardPlan)) (gate : Option Rule) (side : Side) (count claimed passes swept : ℕ) (log : List Posting) (finished : StateSeen)
     → side ≡ plan.side → count ≡ tiles_of plan.tiles → claimed ≡ tiles_of plan.tiles → passes ≡ workers → finished.plan ≡ plan
     → Worked (tells_of gate) (rule_of gate side) claimed passes log → Swept workers count swept log finished.log → EachAtMostOnce (tiles_of finished.plan.tiles) finished.log
-    → IsRun (crew_of plan workers) gate (record { tiles = count; swept = swept }) finished
-run_is plan workers gate side count claimed passes swept log finished same_side counted same_tiles same_workers same_plan w s most =
+    → IsRun (crew_of plan workers cache) gate (record { tiles = count; swept = swept }) finished
+run_is plan workers cache gate side count claimed passes swept log finished same_side counted same_tiles same_workers same_plan w s most =
     let worked = subst (λ (a : Side). Worked (tells_of gate) (rule_of gate a) claimed passes log) same_side w in
     let sweep = subst (λ n. Swept workers n swept log finished.log) counted s in
     record {

@@ -4,6 +4,7 @@ use Rattle.atomic_table.specs.Seated.{TableId}
 use Rattle.tile_claims.specs.Drawers.{DrawerSeen}
 use Rattle.turn_lock.specs.Seen.{LockId}
 use Rattle.lock_row.specs.Rows.{locks_of}
+use Rattle.eval_cache.specs.declared.shard.ShardPlan.{ShardPlan}
 use Rattle.phase_state.specs.declared.phase_plan.PlanSeen.{PlanSeen}
 use Rattle.phase_state.specs.Rooms.{HasRoom}
 use Rattle.level_totals.specs.Levels.{LevelSeen, LevelPassSeen, seen_of, own_of}
@@ -11,29 +12,29 @@ use Rattle.phase_workers.specs.Crews.{Did, IsLast}
 use Rattle.phase_workers.specs.declared.worker.Worker.{Worker}
 
 -- it has drawn and posted nothing, and has room for each tile
-abbrev pub Ready : LevelSeen → TableId → Worker → Type 0
-Ready level table w =
-    (locks_of w.pass ≡ level.locks) × (w.drawer.claims ≡ table) × (w.drawer.had_none ≡ false) × (w.drawer.drawn ≡ []) × (own_of w.pass ≡ [])
+abbrev pub Ready : LevelSeen → TableId → List (LockId ShardPlan) → Worker → Type 0
+Ready level table cache w =
+    (w.cached ≡ cache) × (locks_of w.pass ≡ level.locks) × (w.drawer.claims ≡ table) × (w.drawer.had_none ≡ false) × (w.drawer.drawn ≡ []) × (own_of w.pass ≡ [])
     × HasRoom level.plan.tiles w.room.reports w.room.candidates
 
 -- it drew until there was no tile left, and did its tiles
-abbrev pub IsDone : List (LockId PlanSeen) → TableId → Bool → (ℕ → Bool) → ℕ → Worker → Type 0
-IsDone locks table tells rule tiles w =
-    (locks_of w.pass ≡ locks) × (w.drawer.claims ≡ table)
+abbrev pub IsDone : List (LockId PlanSeen) → TableId → List (LockId ShardPlan) → Bool → (ℕ → Bool) → ℕ → Worker → Type 0
+IsDone locks table cache tells rule tiles w =
+    (w.cached ≡ cache) × (locks_of w.pass ≡ locks) × (w.drawer.claims ≡ table)
     × IsLast tiles w.drawer.drawn
     × Did tells rule tiles w.drawer.drawn (seen_of w.pass) (own_of w.pass)
 
 -- one who is ready sits there
-pub record Waiting (level : LevelSeen) (table : TableId) (seat : Option Worker) : Type 0 where
+pub record Waiting (level : LevelSeen) (table : TableId) (cache : List (LockId ShardPlan)) (seat : Option Worker) : Type 0 where
   pub worker : Worker
   pub here : seat ≡ Some worker
-  pub ready : Ready level table worker
+  pub ready : Ready level table cache worker
 
 -- one whose work is done sits there
-pub record Home (locks : List (LockId PlanSeen)) (table : TableId) (tells : Bool) (rule : ℕ → Bool) (tiles : ℕ) (seat : Option Worker) : Type 0 where
+pub record Home (locks : List (LockId PlanSeen)) (table : TableId) (cache : List (LockId ShardPlan)) (tells : Bool) (rule : ℕ → Bool) (tiles : ℕ) (seat : Option Worker) : Type 0 where
   pub worker : Worker
   pub here : seat ≡ Some worker
-  pub done : IsDone locks table tells rule tiles worker
+  pub done : IsDone locks table cache tells rule tiles worker
 
 -- the drawer and the pass of one worker that is done
 pub record IsPaired (locks : List (LockId PlanSeen)) (table : TableId) (tells : Bool) (rule : ℕ → Bool) (tiles : ℕ) (d : DrawerSeen) (p : LevelPassSeen) : Type 0 where

@@ -1,4 +1,4 @@
-//! A gate as one side's workers ask it.
+//! A gate as one side's workers ask it and tell it of what they made.
 //! It is not said here that threads may share it, so that what asks it can be called by the method of a trait.
 
 ghost use Rattle.std.specs.Prelude.{◌≡◌, true};
@@ -20,6 +20,9 @@ pub trait Asked {
     /// Asked after each claim.
     fn ask(&self, worker: u32, tile: u32) -> Say
         ensures { Self.tells self.now ≡ true → is_abandon result ≡ Self.rule self.now tile };
+
+    /// Told of each tile whose sums were made, and how many of its nodes were made from one that the cache gave.
+    fn found(&self, worker: u32, tile: u32, nodes: u64);
 }
 
 /// A gate, asked for the tiles of one side.
@@ -38,5 +41,9 @@ impl<'g, G: Gate> Asked for AtGate<'g, G> {
 
     fn ask(&self, worker: u32, tile: u32) -> Say {
         self.gate.at(self.side, worker, tile)
+    }
+
+    fn found(&self, worker: u32, tile: u32, nodes: u64) {
+        self.gate.found(self.side, worker, tile, nodes)
     }
 }

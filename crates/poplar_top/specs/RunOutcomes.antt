@@ -58,6 +58,7 @@ rules_asked settings = record {
   workers = settings.options.workers;
   uploaders = settings.options.uploaders;
   cap = settings.options.cap;
+  cache = settings.options.cache;
   verify = settings.options.verify;
   drill = settings.options.drill;
 }

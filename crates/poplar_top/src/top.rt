@@ -114,6 +114,7 @@ fn run_command<R: Threads + Wait + Sync, H: Shelf, K: Sink, E: Sink, L: Link, G:
         workers: asked.options.workers,
         uploaders: asked.options.uploaders,
         cap: asked.options.cap,
+        cache: asked.options.cache,
         verify: asked.options.verify,
         drill: asked.options.drill,
     };

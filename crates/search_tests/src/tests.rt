@@ -1,7 +1,7 @@
 //! Whole searches over a shelf, sinks and a link in memory: status, out and err byte for byte.
 //! A row has its words with one blank between each two.
 
-use gates::{Hold, HoldGate};
+use gates::{Hold, HoldGate, TallyGate};
 use poplar_top::poplar;
 use prefix_bits::Side;
 use shelf_io::{
@@ -23,6 +23,12 @@ const FOUND: Expected = (0, "2\tab\n", "sealed 3 passed 3 levels 16\n");
 
 const MADE: Expected = (0, "heavy 6 sum 504\n", "sealed 512 passed 512 levels 16\n");
 
+const MANY: Expected = (
+    0,
+    "heavy 5 sum 992\n",
+    "sealed 1024 passed 1024 levels 16\n",
+);
+
 const FILES: [(&str, &[u8]); 8] = [
     ("s", b"ab\nab\nac\n"),
     ("empty", b""),
@@ -37,7 +43,7 @@ const FILES: [(&str, &[u8]); 8] = [
     ),
 ];
 
-const ROWS: [(&str, Expected); 24] = [
+const ROWS: [(&str, Expected); 26] = [
     ("find --width 2 --threshold 2 s", FOUND),
     (
         "find s --threshold=1 --width=2",
@@ -108,6 +114,14 @@ const ROWS: [(&str, Expected); 24] = [
     (
         "make --reports 512 --width 2 --threshold 8 --workers 8",
         MADE,
+    ),
+    (
+        "make --reports 1024 --width 2 --threshold 30 --cache 1",
+        MANY,
+    ),
+    (
+        "make --reports 1024 --width 2 --threshold 30 --cache 4096",
+        MANY,
     ),
     (
         "make --reports 0 --width 1 --threshold 1",
@@ -298,6 +312,28 @@ fn workers_and_uploads_overlap(rt: HostRuntime) -> Result<(), AllocError> {
         );
         assert_eq!(rt; gate.asked(), comes, "at {row}");
         assert_eq!(rt; gate.met(), comes, "at {row}");
+    }
+    Ok(())
+}
+
+// Every phase is one tile of three reports by two candidates. With a cache that holds them all, each parent is found in both phases
+// of both sides at each of the levels 2 to 16. With one node a shard a parent is found in the first phase alone, at the six levels
+// before which the one surviving prefix ends with the bit 1, since that child was offered last.
+const TALLIES: [(&str, u64); 2] = [
+    ("find --width 2 --threshold 2 s", 360),
+    ("find --width 2 --threshold 2 --cache 1 s", 72),
+];
+
+#[test]
+fn nodes_are_made_from_found_parents(rt: HostRuntime) -> Result<(), AllocError> {
+    for (row, seen) in TALLIES {
+        let gate = TallyGate::new();
+        let mut link = FirmLink::new(rt.alloc());
+        assert!(rt;
+            ends(&rt, rt.alloc(), row, &[], &mut link, &gate, FOUND)?,
+            "at {row}"
+        );
+        assert_eq!(rt; gate.seen(), seen, "at {row}");
     }
     Ok(())
 }

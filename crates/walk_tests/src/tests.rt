@@ -41,17 +41,18 @@ fn strings_are_found_at_each_threshold(rt: HostRuntime) -> Result<(), AllocError
 
 #[test]
 fn no_way_changes_the_answer(rt: HostRuntime) -> Result<(), AllocError> {
-    for (workers, drill, by_reports, by_candidates) in [
-        (1, 0, 1, 1),
-        (8, 0, 2, 3),
-        (8, 1, 1, 1),
-        (1, 3, 2, 3),
-        (8, 3, 64, 64),
+    for (workers, drill, cache, by_reports, by_candidates) in [
+        (1, 0, 1, 1, 1),
+        (8, 0, 4096, 2, 3),
+        (8, 1, 1, 1, 1),
+        (1, 3, 4096, 2, 3),
+        (8, 3, 1, 64, 64),
     ] {
         let way = Way {
             workers,
             uploaders: workers,
             drill,
+            cache,
             by_reports,
             by_candidates,
         };

@@ -21,15 +21,18 @@ pub struct Way {
     pub workers: u32,
     pub uploaders: u32,
     pub drill: u32,
+    /// The most nodes of a shard of a side's cache.
+    pub cache: u32,
     pub by_reports: u32,
     pub by_candidates: u32,
 }
 
-/// The program's way: 4 workers, 4 uploaders, no drill, tiles of 64 reports by 64 candidates.
+/// The program's way: 4 workers, 4 uploaders, no drill, caches of 4,096 nodes a shard, tiles of 64 reports by 64 candidates.
 pub const PLAIN: Way = Way {
     workers: 4,
     uploaders: 4,
     drill: 0,
+    cache: 4096,
     by_reports: 64,
     by_candidates: 64,
 };
@@ -46,6 +49,9 @@ impl Way {
             return false;
         }
         if self.uploaders < 1 || self.uploaders > 64 {
+            return false;
+        }
+        if self.cache < 1 || self.cache > 65536 {
             return false;
         }
         self.by_reports >= 1 && self.by_candidates >= 1
@@ -65,7 +71,7 @@ fn settings_of(threshold: u32, way: &Way) -> WalkSettings
         threshold: u64::from(threshold),
         cap: CAP,
         workers: way.workers,
-        cache: 4096,
+        cache: way.cache,
         verify: Seed([0; 32]),
         drill: way.drill,
         by_reports: way.by_reports,

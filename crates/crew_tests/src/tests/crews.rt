@@ -1,12 +1,14 @@
 //! Phases of 3 reports by 8 candidates by crews of 1 to 64 workers, in tiles of all sizes, under drills and a hold.
-//! What is swept follows from the drill.
+//! What is swept follows from the drill. A phase leaves the nodes that it made in its cache.
 
 use crate::{Cut, Trial, plan_of};
 use definitions::Side;
+use eval_cache::EvalCache;
 use field64::Fe;
 use gates::{DrillGate, Hold, HoldGate};
 use phase_state::Kind;
-use phase_workers::{Crew, run_both, run_phase};
+use phase_workers::{Crew, Phase, run_both, run_phase};
+use prefix_bits::Prefix;
 use shelf_io::OpenGate;
 use std::alloc::AllocError;
 
@@ -17,7 +19,9 @@ fn drills_and_workers(rt: HostRuntime) -> Result<(), AllocError> {
         let made = plan_of(&trial, Side::One, Kind::Totals, Cut::Small);
         assert!(rt; made.is_some());
         let Some(plan) = made else { return Ok(()) };
-        let crew = Crew::new(rt.alloc(), plan, workers)?;
+        let shares = trial.shares.as_slice();
+        let (cache, passes) = EvalCache::new(rt.alloc(), shares, Side::One, 16, 4, workers + 1)?;
+        let crew = Crew::new(rt.alloc(), plan, &cache, passes, workers)?;
         let gate = DrillGate {
             n,
             inner: &OpenGate,
@@ -42,7 +46,9 @@ fn sums_in_tiles_of_all_sizes(rt: HostRuntime) -> Result<(), AllocError> {
         let made = plan_of(&trial, Side::Zero, Kind::Sketch, cut);
         assert!(rt; made.is_some());
         let Some(plan) = made else { return Ok(()) };
-        let crew = Crew::new(rt.alloc(), plan, workers)?;
+        let shares = trial.shares.as_slice();
+        let (cache, passes) = EvalCache::new(rt.alloc(), shares, Side::Zero, 2, 4, workers + 1)?;
+        let crew = Crew::new(rt.alloc(), plan, &cache, passes, workers)?;
         let phase = run_phase(&rt, crew, &OpenGate);
         assert_eq!(rt; phase.done.tiles, tiles);
         assert!(rt; trial.has_sums(Side::Zero, phase.finished.sums()));
@@ -56,7 +62,9 @@ fn a_phase_without_reports(rt: HostRuntime) -> Result<(), AllocError> {
     let made = plan_of(&trial, Side::Zero, Kind::Totals, Cut::Small);
     assert!(rt; made.is_some());
     let Some(plan) = made else { return Ok(()) };
-    let crew = Crew::new(rt.alloc(), plan, 2)?;
+    let shares = trial.shares.as_slice();
+    let (cache, passes) = EvalCache::new(rt.alloc(), shares, Side::Zero, 16, 4, 3)?;
+    let crew = Crew::new(rt.alloc(), plan, &cache, passes, 2)?;
     let phase = run_phase(&rt, crew, &OpenGate);
     assert_eq!(rt; phase.done.tiles, 0);
     assert_eq!(rt; phase.done.swept, 0);
@@ -75,8 +83,11 @@ fn both_sides_at_once(rt: HostRuntime) -> Result<(), AllocError> {
     let (Some(zero), Some(one)) = (zero, one) else {
         return Ok(());
     };
-    let zero = Crew::new(rt.alloc(), zero, 2)?;
-    let one = Crew::new(rt.alloc(), one, 3)?;
+    let shares = trial.shares.as_slice();
+    let (cache0, passes0) = EvalCache::new(rt.alloc(), shares, Side::Zero, 16, 4, 3)?;
+    let (cache1, passes1) = EvalCache::new(rt.alloc(), shares, Side::One, 1, 1, 4)?;
+    let zero = Crew::new(rt.alloc(), zero, &cache0, passes0, 2)?;
+    let one = Crew::new(rt.alloc(), one, &cache1, passes1, 3)?;
     let (zero, one) = run_both(&rt, zero, one, &OpenGate);
     assert!(rt; trial.has_totals(Side::Zero, zero.finished.totals()));
     assert!(rt; trial.has_totals(Side::One, one.finished.totals()));
@@ -89,11 +100,42 @@ fn two_workers_meet(rt: HostRuntime) -> Result<(), AllocError> {
     let made = plan_of(&trial, Side::Zero, Kind::Totals, Cut::Small);
     assert!(rt; made.is_some());
     let Some(plan) = made else { return Ok(()) };
-    let crew = Crew::new(rt.alloc(), plan, 2)?;
+    let shares = trial.shares.as_slice();
+    let (cache, passes) = EvalCache::new(rt.alloc(), shares, Side::Zero, 16, 4, 3)?;
+    let crew = Crew::new(rt.alloc(), plan, &cache, passes, 2)?;
     let gate = HoldGate::new(Side::Zero, Hold::Tile);
     let phase = run_phase(&rt, crew, &gate);
     assert!(rt; gate.asked());
     assert!(rt; gate.met());
     assert_eq!(rt; phase.done.swept, 0);
+    Ok(())
+}
+
+#[test]
+fn cache_is_used(rt: HostRuntime) -> Result<(), AllocError> {
+    let trial = Trial::at_the_first_level(rt.alloc())?;
+    let made = plan_of(&trial, Side::Zero, Kind::Sketch, Cut::Large);
+    assert!(rt; made.is_some());
+    let Some(plan) = made else { return Ok(()) };
+    let shares = trial.shares.as_slice();
+    let (cache, passes) = EvalCache::new(rt.alloc(), shares, Side::Zero, 16, 16, 2)?;
+    let crew = Crew::new(rt.alloc(), plan, &cache, passes, 1)?;
+    let Phase {
+        done,
+        finished,
+        mut passes,
+    } = run_phase(&rt, crew, &OpenGate);
+    assert_eq!(rt; done.tiles, 1);
+    assert!(rt; trial.has_sums(Side::Zero, finished.sums()));
+    let Some(pass) = passes.pop() else {
+        unreachable!()
+    };
+    let prefixes = [Prefix::empty().child(false), Prefix::empty().child(true)];
+    let mut into = [None, None];
+    cache.gather(&rt, pass, 0, &prefixes, &mut into);
+    assert!(rt; into[0].is_some());
+    assert!(rt; into[0] == trial.first_node(Side::Zero, &prefixes[0]));
+    assert!(rt; into[1].is_some());
+    assert!(rt; into[1] == trial.first_node(Side::Zero, &prefixes[1]));
     Ok(())
 }

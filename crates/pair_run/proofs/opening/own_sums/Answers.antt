@@ -5,6 +5,8 @@ use Rattle.phase_state.specs.declared.kind.Kind.TheVariants.{Sketch}
 use Rattle.walk_definitions.specs.Walk.{own_sums}
 use Rattle.pair_run.specs.Places.{picked}
 use Rattle.pair_run.specs.Rules.{rules_of}
+use Rattle.phase_state.specs.declared.phase_plan.PlanSeen.{PlanSeen}
+use Rattle.pair_run.proofs.HeldCaches.{caches_as, caches_of}
 use Rattle.pair_run.proofs.Phases.{own_sums_are}
 use Rattle.pair_run.proofs.SideNumbers.{sums_below, length_map, length_picked}
 use Rattle.pair_run.proofs.opening.own_sums.Goals as goal
@@ -37,3 +39,13 @@ pub returns-clause-below1 : goal.returns-clause-below1
 returns-clause-below1 g c =
     sums_below (rules_of c.args.settings.now) c.args.level c.args.candidates.now One (picked c.args.batch.now c.args.live.now) c.in_ok-both_sums.field-0.1.items
     (returns-clause-sums1 g c)
+
+pub both_sums-requires-clause-caches : goal.both_sums-requires-clause-caches
+both_sums-requires-clause-caches g c =
+    caches_as c.args.batch.now c.args.settings.now.workers c.args.caches.now c.args.hold.now c.side_plan-zero.result.shares c.side_plan-one.result.shares
+    (ap (λ (p : PlanSeen). p.shares) c.side_plan-zero.ensures.exact) (ap (λ (p : PlanSeen). p.shares) c.side_plan-one.ensures.exact) c.requires.caches
+
+pub returns-clause-caches : goal.returns-clause-caches
+returns-clause-caches g c =
+    caches_of c.args.batch.now c.args.settings.now.workers c.args.caches.now c.both_sums.new.hold c.side_plan-zero.result.shares c.side_plan-one.result.shares
+    (ap (λ (p : PlanSeen). p.shares) c.side_plan-zero.ensures.exact) (ap (λ (p : PlanSeen). p.shares) c.side_plan-one.ensures.exact) c.in_ok-both_sums.ensures.caches

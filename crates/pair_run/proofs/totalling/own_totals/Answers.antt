@@ -3,6 +3,8 @@ use Rattle.definitions.specs.declared.Side.TheVariants.{Zero, One}
 use Rattle.phase_state.specs.declared.kind.Kind.TheVariants.{Totals}
 use Rattle.walk_definitions.specs.Walk.{own_total}
 use Rattle.pair_run.specs.Places.{picked}
+use Rattle.phase_state.specs.declared.phase_plan.PlanSeen.{PlanSeen}
+use Rattle.pair_run.proofs.HeldCaches.{caches_as, caches_of}
 use Rattle.pair_run.proofs.Phases.{own_totals_are}
 use Rattle.pair_run.proofs.SideNumbers.{totals_below, length_map}
 use Rattle.pair_run.proofs.totalling.own_totals.Goals as goal
@@ -31,3 +33,13 @@ returns-clause-below0 g c =
 pub returns-clause-below1 : goal.returns-clause-below1
 returns-clause-below1 g c =
     totals_below c.args.candidates.now One (picked c.args.batch.now c.args.passed.now) c.in_ok-both_totals.field-0.1.items (returns-clause-totals1 g c)
+
+pub both_totals-requires-clause-caches : goal.both_totals-requires-clause-caches
+both_totals-requires-clause-caches g c =
+    caches_as c.args.batch.now c.args.settings.now.workers c.args.caches.now c.args.hold.now c.side_plan-zero.result.shares c.side_plan-one.result.shares
+    (ap (λ (p : PlanSeen). p.shares) c.side_plan-zero.ensures.exact) (ap (λ (p : PlanSeen). p.shares) c.side_plan-one.ensures.exact) c.requires.caches
+
+pub returns-clause-caches : goal.returns-clause-caches
+returns-clause-caches g c =
+    caches_of c.args.batch.now c.args.settings.now.workers c.args.caches.now c.both_totals.new.hold c.side_plan-zero.result.shares c.side_plan-one.result.shares
+    (ap (λ (p : PlanSeen). p.shares) c.side_plan-zero.ensures.exact) (ap (λ (p : PlanSeen). p.shares) c.side_plan-one.ensures.exact) c.in_ok-both_totals.ensures.caches

@@ -8,6 +8,7 @@ use Rattle.phase_workers.proofs.working.work.Given as goal
 abbrev pub invariant-loop : goal.invariant-loop
 invariant-loop g l =
     ((goal.iterator-loop g).can_next l.iterator' × (goal.iterator-loop g).is_finite l.iterator')
+    × (l.cached ≡ l.shared.cache.now.locks)
     × (l.drawer.claims ≡ l.shared.claims.now.id)
     × (l.drawer.had_none ≡ false)
     × (locks_of l.pass ≡ l.shared.level.now.locks)

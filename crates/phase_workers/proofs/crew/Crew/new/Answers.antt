@@ -30,4 +30,9 @@ invariant_of-result c =
       search rules,
       search rules,
       subst (λ (p : Plan). HasRoom p room.reports room.candidates) same c.in_ok-room.ensures,
+      c.requires.cache.0 ∙ ap (λ (p : PlanSeen). p.side) (sym c.in_ok-level.ensures.plan),
+      c.requires.cache.1 ∙ ap (λ (p : PlanSeen). p.shares) (sym c.in_ok-level.ensures.plan),
+      c.in_ok-seats.ensures.cached,
+      c.in_ok-seats.ensures.left,
+      search rules,
     )
