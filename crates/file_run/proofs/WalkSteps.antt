@@ -6,6 +6,9 @@ use Rattle.std.proofs.Math.Seq.{drop-append_seam}
 use Rattle.definitions.specs.Evaluation.{Share}
 use Rattle.definitions.specs.declared.Side.TheVariants.{Zero, One}
 use Rattle.shelf_io.specs.Talks.{Talk}
+use Rattle.std.specs.List.Sorted.{IsPermutation}
+use Rattle.walk_definitions.proofs.BatchLaws.{batch_law}
+use Rattle.report_collection.proofs.Order.{same_shares}
 use Rattle.walk_definitions.specs.Reports.{Report, batch}
 use Rattle.walk_definitions.specs.Walk.{Settings, End, walk, capped, peer_message, views}
 use Rattle.walk_definitions.specs.Messages.{Message, messages}
@@ -33,6 +36,11 @@ use Rattle.file_run.specs.Sendings.{SentHeard, SentWhole, SentFront, SentBy}
 use Rattle.file_run.proofs.ReadSteps.{some_map}
 
 -- ---- the lists that were walked, and the lines of their malformed records
+
+pub batches_same : (both : Both) (zeros ones : List Share) → IsPermutation both.0.shares zeros → IsPermutation both.1.shares ones
+    → batch zeros ones ≡ batch_for both
+batches_same both zeros ones zero one =
+    sym (batch_law both.0.shares zeros both.1.shares ones (same_shares both.0.shares zeros zero) (same_shares both.1.shares ones one))
 
 pub lines_same : (both : Both) (malformed0 malformed1 line text : List ℕ) → text ≡ (refused_text Zero malformed0 ++ refused_text One malformed1) ++ line
     → malformed0 ≡ both.0.malformed → malformed1 ≡ both.1.malformed → text ≡ refused_for both ++ line
