@@ -6,9 +6,7 @@ mod generating;
 mod ordering;
 mod pairs;
 mod running;
-mod twisting;
 
-use field64::Fe;
 use poplar_top::{eval_file, gen_files, poplar};
 use shelf_io::{Call, FirmSink, Link, MemoryShelf, OpenGate, Shelf};
 use std::alloc::{AllocError, Global};
@@ -104,17 +102,4 @@ fn with_shares(
     ];
     generates(alloc, &mut shelf, &words, 0, "")?;
     Ok(shelf)
-}
-
-// Adds 1 to the element at a place, where there is one.
-fn raise(bytes: &mut [u8], place: usize) {
-    if bytes.len() < 8 || place > bytes.len() - 8 {
-        return;
-    }
-    let mut number = [0; 8];
-    number.copy_from_slice(&bytes[place..place + 8]);
-    if let Some(element) = Fe::new(u64::from_le_bytes(number)) {
-        let raised = element.add(Fe::one()).number();
-        bytes[place..place + 8].copy_from_slice(&raised.to_le_bytes());
-    }
 }

@@ -1,17 +1,14 @@
-//! `run` over share files of `gen` that are whole, cut, doubled or changed, with words of every kind, and over failing objects.
+//! `run` over share files of `gen` that are whole, cut, doubled or malformed, and with words of every kind.
 //! What it gives is stated by worked examples and by the rules of the format.
 
-use super::{Expected, MASTER, raise, runs, shelf_of, with_shares, words_of};
-use poplar_top::poplar;
+use super::{Expected, MASTER, runs, with_shares};
 use prefix_bits::Side;
-use shelf_io::{Call, FirmLink, MemoryLink, MemoryShelf, MemorySink, OpenGate};
+use shelf_io::{FirmLink, MemoryShelf};
 use std::alloc::{AllocError, Global};
 
 const USAGE: Expected<'static> = (2, "", "usage: poplar eval, gen, run, find, make, upgrade\n");
 
 const FOUND: Expected<'static> = (0, "2\tab\n", "sealed 3 passed 3 levels 16\n");
-
-const ALL_LEVELS: &str = "sealed 3 passed 2 levels 16\n";
 
 // A width, the strings, and the names of both sides' files that `gen` makes of them.
 const MADE: [(&str, &[u8], &str, &str); 4] = [
@@ -28,14 +25,12 @@ enum Change {
     Front(usize),
     // With this byte at a place.
     Byte(usize, u8),
-    // With the element at a place raised by 1.
-    Raised(usize),
     // With the bytes of a file from a place to another behind it.
     Followed(&'static str, usize, usize),
 }
 
 // A name, the file that it is made of, and how.
-const CHANGED: [(&str, &str, Change); 12] = [
+const CHANGED: [(&str, &str, Change); 8] = [
     ("head0", "a0", Change::Front(8)),
     ("head1", "a1", Change::Front(8)),
     ("wide_head1", "f1", Change::Front(8)),
@@ -44,14 +39,10 @@ const CHANGED: [(&str, &str, Change); 12] = [
     ("twice0", "a0", Change::Followed("a0", 8, 608)),
     ("twice1", "a1", Change::Followed("a1", 8, 608)),
     ("malformed0", "f0", Change::Byte(1240, 4)),
-    ("first_level0", "f0", Change::Raised(1265)),
-    ("fifth_level0", "f0", Change::Raised(1525)),
-    ("other_first0", "f0", Change::Raised(145)),
-    ("clash0", "f0", Change::Followed("other_first0", 8, 1128)),
 ];
 
 // A threshold, both files, what `run` gives, and how many messages it sends.
-const FILES: [(&str, &str, &str, Expected<'static>, u32); 15] = [
+const FILES: [(&str, &str, &str, Expected<'static>, u32); 10] = [
     (
         "1",
         "a0",
@@ -89,13 +80,6 @@ const FILES: [(&str, &str, &str, Expected<'static>, u32); 15] = [
     ),
     (
         "1",
-        "f0",
-        "cut1",
-        (3, "", "share file 1: cut at byte 2248\n"),
-        0,
-    ),
-    (
-        "1",
         "f1",
         "f0",
         (3, "", "share file 0: header wrong at byte 5\n"),
@@ -119,28 +103,6 @@ const FILES: [(&str, &str, &str, Expected<'static>, u32); 15] = [
             "1\tab\n1\tac\n",
             "refused side 0 record 1\nsealed 2 passed 2 levels 16\n",
         ),
-        96,
-    ),
-    (
-        "1",
-        "first_level0",
-        "f1",
-        (0, "1\tab\n1\tac\n", ALL_LEVELS),
-        96,
-    ),
-    ("2", "first_level0", "f1", (0, "", ALL_LEVELS), 96),
-    (
-        "3",
-        "fifth_level0",
-        "f1",
-        (0, "", "sealed 3 passed 2 levels 5\n"),
-        30,
-    ),
-    (
-        "1",
-        "clash0",
-        "f1",
-        (0, "1\tab\n1\tac\n", "sealed 2 passed 2 levels 16\n"),
         96,
     ),
 ];
@@ -266,10 +228,6 @@ fn changed(
                 file[place] = byte;
             }
         }
-        Change::Raised(place) => {
-            file.extend_from_slice(bytes)?;
-            raise(&mut file, place);
-        }
         Change::Followed(other, from, to) => {
             file.extend_from_slice(bytes)?;
             let more = bytes_of(shelf, other);
@@ -292,22 +250,6 @@ pub(super) fn filled(alloc: Global) -> Result<MemoryShelf, AllocError> {
         shelf = shelf.with(name, &file)?;
     }
     Ok(shelf)
-}
-
-// A shelf with the files of two strings `ab` and one `ac`, of which the call of a kind with this number fails.
-fn failing(alloc: Global, call: Call, number: u64) -> Result<MemoryShelf, AllocError> {
-    let none = MemoryShelf::new(alloc, Vec::new(alloc));
-    let made = with_shares(alloc, none, "2", b"ab\nab\nac\n", "f0", "f1")?;
-    shelf_of(alloc, call, number)?
-        .with("f0", bytes_of(&made, "f0"))?
-        .with("f1", bytes_of(&made, "f1"))
-}
-
-// The list of one call that is to fail; 0 for none.
-fn plan(alloc: Global, call: Call, number: u64) -> Result<Vec<(Call, u64)>, AllocError> {
-    let mut fail = Vec::new(alloc);
-    fail.push((call, number))?;
-    Ok(fail)
 }
 
 // Whether a link was sent just so many messages.
@@ -357,56 +299,5 @@ fn no_reports_send_six_messages(rt: HostRuntime) -> Result<(), AllocError> {
         assert!(rt; link.sent(first + 1) == Some((Side::One, *bytes)));
     }
     assert!(rt; link.sent(6).is_none());
-    Ok(())
-}
-
-#[test]
-fn shelves_that_fail(rt: HostRuntime) -> Result<(), AllocError> {
-    for (call, number) in [(Call::Read, 2), (Call::Length, 1), (Call::Length, 2)] {
-        let mut shelf = failing(rt.alloc(), call, number)?;
-        let mut link = FirmLink::new(rt.alloc());
-        let words = ["run", "--threshold", "2", "f0", "f1"];
-        let expected = (6, "", "shelf fault\n");
-        assert!(rt; runs(&rt, rt.alloc(), &mut shelf, &mut link, &words, expected)?);
-        assert!(rt; has_sent(&link, 0));
-    }
-    Ok(())
-}
-
-#[test]
-fn links_that_fail(rt: HostRuntime) -> Result<(), AllocError> {
-    let mut shelf = failing(rt.alloc(), Call::Read, 0)?;
-    for (call, number) in [(Call::Send, 3), (Call::Receive, 1)] {
-        let mut link = MemoryLink::new(rt.alloc(), plan(rt.alloc(), call, number)?);
-        let words = ["run", "--threshold", "2", "f0", "f1"];
-        let expected = (7, "", "link fault\n");
-        assert!(rt; runs(&rt, rt.alloc(), &mut shelf, &mut link, &words, expected)?);
-        assert!(rt; link.sent(1).is_some() && link.sent(2).is_none());
-    }
-    Ok(())
-}
-
-#[test]
-fn sinks_that_fail(rt: HostRuntime) -> Result<(), AllocError> {
-    let mut shelf = failing(rt.alloc(), Call::Read, 0)?;
-    for (number, other, text) in [(1, 0, ""), (0, 1, "2\tab\n")] {
-        let mut out = MemorySink::new(rt.alloc(), plan(rt.alloc(), Call::Write, number)?);
-        let mut err = MemorySink::new(rt.alloc(), plan(rt.alloc(), Call::Write, other)?);
-        let mut link = FirmLink::new(rt.alloc());
-        let words = words_of(rt.alloc(), &["run", "--threshold", "2", "f0", "f1"])?;
-        let ended = poplar(
-            &rt,
-            rt.alloc(),
-            &words,
-            &mut shelf,
-            &mut out,
-            &mut err,
-            &mut link,
-            &OpenGate,
-        );
-        assert_eq!(rt; ended, 10);
-        assert!(rt; out.bytes() == text.as_bytes());
-        assert!(rt; err.bytes() == "sink fault\n".as_bytes());
-    }
     Ok(())
 }

@@ -1,0 +1,2 @@
+pub mod Hollows
+pub mod Twists
