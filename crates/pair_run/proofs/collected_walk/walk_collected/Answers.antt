@@ -1,9 +1,12 @@
 use Rattle.std.proofs.Common.{◌≡◌, ◌≤◌, ap, sym, subst, length, arith}
 use Rattle.std.specs.Prelude.{map}
 use Rattle.std.specs.List.{All}
-use Rattle.walk_definitions.specs.Reports.{held}
+use Rattle.shelf_io.specs.Seen.{link_seen}
+use Rattle.walk_definitions.specs.Reports.{batch, held}
 use Rattle.report_batch.proofs.Given.{all_levels}
 use Rattle.report_batch.proofs.Sizes.{size}
+use Rattle.pair_run.specs.Rules.{rules_of}
+use Rattle.pair_run.proofs.Keeping.{no_memory_keeps}
 use Rattle.pair_run.proofs.Phases.{fewer_reports}
 use Rattle.pair_run.proofs.collected_walk.walk_collected.Goals as goal
 
@@ -23,3 +26,8 @@ walk-requires-clause-tiles g c = λ _ _.
     let fewer : length c.in_ok-reports.reports ≤ length c.args.collect.zero = omega (arith, count, (size c.args.collect.zero c.args.collect.one).0) in
     fewer_reports c.args.settings.now (length c.in_ok-reports.reports) (length c.args.collect.zero) c.requires.settings.some_reports
     c.requires.settings.some_candidates fewer c.requires.tiles
+
+pub returns-in_err-reports : goal.returns-in_err-reports
+returns-in_err-reports g c =
+    no_memory_keeps (rules_of c.args.settings.now) (batch c.args.collect.zero c.args.collect.one) (link_seen g.K.Link c.args.link.now)
+    c.from_residual.result c.from_residual.ensures
