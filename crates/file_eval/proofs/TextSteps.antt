@@ -5,7 +5,7 @@ use Rattle.std.specs.FinMap.{get}
 use Rattle.std.proofs.lemmas.Option.{slice_get_past}
 use Rattle.shelf_io.specs.Files.{Files, IfThere}
 use Rattle.share_format.specs.ShareFile.{RecordCase, records}
-use Rattle.share_format.specs.Readings.{Reading, Fits, advanced}
+use Rattle.share_format.specs.Readings.{Reading, Fits, advanced, holding}
 use Rattle.share_format.specs.declared.records.Record.{Record}
 use Rattle.share_format.specs.declared.records.Record.TheVariants as given
 use Rattle.share_format.specs.Answers.{answer, record_answer}
@@ -40,7 +40,7 @@ module _ (Text : List RecordCase → List ℕ) (Adds : Record → List ℕ) (gro
   text_begins told reader text e first =
       there_all told reader.name _ (λ bytes. e ∙ sym (grows.none (records reader.width bytes)) ∙ ap (λ k. Text (take k (records reader.width bytes))) (sym first))
 
-  pub text_goes_on : (told now : Option Files) (old new : Reading) (text grown : List ℕ) → now ≡ told → new ≡ advanced old → old.next < old.count → Fits told old
+  pub text_goes_on : (told now : Option Files) (old new : Reading) (text grown : List ℕ) → now ≡ told → new ≡ holding new.held (advanced old) → old.next < old.count → Fits told old
       → IfThere told old.name (λ bytes. text ≡ Text (take old.next (records old.width bytes)))
       → IfThere told old.name (λ bytes. grown ≡ text ++ Adds (record_answer old.next (records old.width bytes)))
       → IfThere now new.name (λ bytes. grown ≡ Text (take new.next (records new.width bytes)))

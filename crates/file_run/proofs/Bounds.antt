@@ -3,7 +3,7 @@ use Rattle.std.proofs.Common.{◌≡◌, ℕ, ◌+◌, ◌*◌, ◌<◌, ◌≤�
 use Rattle.std.proofs.lemmas.Nat.{mul-le}
 use Rattle.tile_claims.specs.Plans.{plan_of, tiles_of}
 use Rattle.tile_claims.proofs.Cutting.{fewer_tiles}
-use Rattle.share_lists.specs.declared.lists.ShareLists.{ShareLists}
+use Rattle.share_lists.specs.FileLists.{ShareLists}
 use Rattle.share_lists.specs.Bounds.{IsWithinAFile}
 
 -- a record has at least 600 bytes, and a file at most 2 ^ 28

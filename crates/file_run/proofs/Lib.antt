@@ -1,3 +1,4 @@
 pub mod ReadSteps
 pub mod WalkSteps
 pub mod Bounds
+pub mod CollectSteps

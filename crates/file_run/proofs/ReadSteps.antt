@@ -1,24 +1,26 @@
 -- What the reading of both files says of the answer.
 use Rattle.std.proofs.Common.{◌≡◌, inl, inr, nat_eq, cond, refl, sym, ap, subst, ◌∙◌}
-use Rattle.std.specs.Prelude.{Option, None, Some, Result, Ok, Err, IfSome}
+use Rattle.std.specs.Prelude.{ℕ, List, Option, None, Some, Result, Ok, Err, IfSome}
+use Rattle.std.specs.FinMap.{get}
 use Rattle.std.proofs.lemmas.Bool.{eq-eqb, ne_eqb}
 use Rattle.definitions.specs.declared.Side.{Side}
 use Rattle.definitions.specs.declared.Side.TheVariants.{Zero, One}
+use Rattle.shelf_io.specs.Files.{Files}
 use Rattle.share_format.specs.Causes.{Gives}
 use Rattle.share_format.specs.declared.file_error.FileError.{FileError}
 use Rattle.share_format.specs.declared.file_error.FileError.TheVariants as files
-use Rattle.share_lists.specs.declared.lists.ShareLists.{ShareLists}
+use Rattle.share_lists.specs.FileLists.{ShareLists}
 use Rattle.file_run.specs.declared.errors.RunError.{RunError}
 use Rattle.file_run.specs.declared.errors.RunError.TheVariants.{File, Widths}
-use Rattle.file_run.specs.Beginnings.{both_lists}
-use Rattle.file_run.specs.Readings.{SideGives, SideFails, BothGive}
+use Rattle.file_run.specs.Beginnings.{Both, both_lists, begun}
+use Rattle.file_run.specs.Readings.{IsRead, AreRead, SideFails, SideStops, BothStop}
 
 -- ---- one side
 
-given_error : (side : Side) (e : FileError) (found : Result ShareLists FileError) → found ≡ Err e → SideGives side (Err (File side e)) found
+given_error : (side : Side) (e : FileError) (found : Result ShareLists FileError) → found ≡ Err e → SideStops side (File side e) found
 given_error side e found h = inr (subst (λ f. SideFails side f (File side e)) (sym h) refl)
 
-pub side_fails : (side : Side) (e : FileError) (found : Result ShareLists FileError) → Gives {X = ShareLists} (Err e) found → SideGives side (Err (File side e)) found
+pub side_fails : (side : Side) (e : FileError) (found : Result ShareLists FileError) → Gives {X = ShareLists} (Err e) found → SideStops side (File side e) found
 side_fails side files.Missing found h = given_error side files.Missing found h
 side_fails side (files.TooLong length) found h = given_error side (files.TooLong length) found h
 side_fails side (files.Header at) found h = given_error side (files.Header at) found h
@@ -28,13 +30,13 @@ side_fails side files.Memory found h = inl tt
 
 -- ---- both sides
 
-pub zero_fails : (e : RunError) (zero one : Result ShareLists FileError) → SideGives Zero (Err e) zero → BothGive (Err e) (both_lists zero one)
+pub zero_fails : (e : RunError) (zero one : Result ShareLists FileError) → SideStops Zero e zero → BothStop e (both_lists zero one)
 zero_fails e zero one (inl fault) = inl fault
 zero_fails e (Ok lists) one (inr h) = absurd h
 zero_fails e (Err error) one (inr h) = inr (ap (λ (x : RunError). Err x) (sym h))
 
-pub one_fails : (e : RunError) (zeros : ShareLists) (zero one : Result ShareLists FileError) → zero ≡ Ok zeros → SideGives One (Err e) one
-    → BothGive (Err e) (both_lists zero one)
+pub one_fails : (e : RunError) (zeros : ShareLists) (zero one : Result ShareLists FileError) → zero ≡ Ok zeros → SideStops One e one
+    → BothStop e (both_lists zero one)
 one_fails e zeros zero one is (inl fault) = inl fault
 one_fails e zeros zero (Ok lists) is (inr h) = absurd h
 one_fails e zeros zero (Err error) is (inr h) = inr (ap (λ z. both_lists z (Err error)) is ∙ ap (λ (x : RunError). Err x) (sym h))
@@ -64,3 +66,58 @@ some_map (Some x) P Q f h = f x h
 pub some_both : {X : Type 0} (o : Option X) (P Q R : X → Type 0) → ((x : X) → P x → Q x → R x) → IfSome o P → IfSome o Q → IfSome o R
 some_both None P Q R f p q = tt
 some_both (Some x) P Q R f p q = f x p q
+
+-- ---- on a shelf that tells
+
+-- a side's file that was not read
+pub side_stops : (told : Option Files) (name : List ℕ) (side : Side) (e : FileError)
+    → IfSome told (λ held. Gives {X = ShareLists} (Err e) (file_lists side (get held name)))
+    → IfSome told (λ held. SideStops side (File side e) (file_lists side (get held name)))
+side_stops told name side e h =
+    some_map told (λ held. Gives {X = ShareLists} (Err e) (file_lists side (get held name))) (λ held. SideStops side (File side e) (file_lists side (get held name)))
+    (λ held g. side_fails side e (file_lists side (get held name)) g) h
+
+-- no file was read, for want of memory
+pub none_stops : (told : Option Files) (zero one : List ℕ) → IfSome told (λ held. BothStop (File Zero files.Memory) (begun zero one held))
+none_stops None zero one = tt
+none_stops (Some held) zero one = inl tt
+
+-- side 0's file was not read
+pub zero_stops : (told : Option Files) (zero one : List ℕ) (e : RunError) → IfSome told (λ held. SideStops Zero e (file_lists Zero (get held zero)))
+    → IfSome told (λ held. BothStop e (begun zero one held))
+unfolding begun
+zero_stops told zero one e h =
+    some_map told (λ held. SideStops Zero e (file_lists Zero (get held zero))) (λ held. BothStop e (begun zero one held))
+    (λ held s. zero_fails e (file_lists Zero (get held zero)) (file_lists One (get held one)) s) h
+
+-- side 1's file was not read
+pub one_stops : (told mid : Option Files) (zero one : List ℕ) (zeros : ShareLists) (e : RunError) → mid ≡ told
+    → IfSome told (λ held. file_lists Zero (get held zero) ≡ Ok zeros) → IfSome mid (λ held. SideStops One e (file_lists One (get held one)))
+    → IfSome told (λ held. BothStop e (begun zero one held))
+unfolding begun
+one_stops told mid zero one zeros e same is h =
+    some_both told (λ held. file_lists Zero (get held zero) ≡ Ok zeros) (λ held. SideStops One e (file_lists One (get held one)))
+    (λ held. BothStop e (begun zero one held))
+    (λ held z s. one_fails e zeros (file_lists Zero (get held zero)) (file_lists One (get held one)) z s) is
+    (subst (λ t. IfSome t (λ held. SideStops One e (file_lists One (get held one)))) same h)
+
+-- both were read, and their widths differ
+pub widths_stop : (told mid : Option Files) (zero one : List ℕ) (zeros ones : ShareLists) → mid ≡ told
+    → IfSome told (λ held. file_lists Zero (get held zero) ≡ Ok zeros) → IfSome mid (λ held. file_lists One (get held one) ≡ Ok ones)
+    → (zeros.width ≡ ones.width → ⊥) → IfSome told (λ held. BothStop (Widths zeros.width ones.width) (begun zero one held))
+unfolding begun
+widths_stop told mid zero one zeros ones same z o differ =
+    some_both told (λ held. file_lists Zero (get held zero) ≡ Ok zeros) (λ held. file_lists One (get held one) ≡ Ok ones)
+    (λ held. BothStop (Widths zeros.width ones.width) (begun zero one held))
+    (λ held zh oh. inr (both_differ zeros ones (file_lists Zero (get held zero)) (file_lists One (get held one)) zh oh differ)) z
+    (subst (λ t. IfSome t (λ held. file_lists One (get held one) ≡ Ok ones)) same o)
+
+-- both were read, and go together
+pub both_begun : (told : Option Files) (zero one : List ℕ) (zeros ones : ShareLists)
+    → IfSome told (λ held. file_lists Zero (get held zero) ≡ Ok zeros) → IfSome told (λ held. file_lists One (get held one) ≡ Ok ones)
+    → zeros.width ≡ ones.width → IfSome told (λ held. begun zero one held ≡ Ok (zeros, ones))
+unfolding begun
+both_begun told zero one zeros ones z o same =
+    some_both told (λ held. file_lists Zero (get held zero) ≡ Ok zeros) (λ held. file_lists One (get held one) ≡ Ok ones)
+    (λ held. begun zero one held ≡ Ok (zeros, ones))
+    (λ held zh oh. both_equal zeros ones (file_lists Zero (get held zero)) (file_lists One (get held one)) zh oh same) z o

@@ -6,6 +6,9 @@ use Rattle.std.proofs.Math.Seq.{drop-append_seam}
 use Rattle.definitions.specs.Evaluation.{Share}
 use Rattle.definitions.specs.declared.Side.TheVariants.{Zero, One}
 use Rattle.shelf_io.specs.Talks.{Talk}
+use Rattle.std.specs.List.Sorted.{IsPermutation}
+use Rattle.walk_definitions.proofs.BatchLaws.{batch_law}
+use Rattle.report_collection.proofs.Order.{same_shares}
 use Rattle.walk_definitions.specs.Reports.{Report, batch}
 use Rattle.walk_definitions.specs.Walk.{Settings, End, walk, capped, peer_message, views}
 use Rattle.walk_definitions.specs.Messages.{Message, messages}
@@ -29,14 +32,15 @@ use Rattle.file_run.specs.Answers.{Ending, ended, run_answer, Answered, FindsHea
 use Rattle.file_run.specs.Beginnings.{Both, begun, settings_for, batch_for, refused_for}
 use Rattle.file_run.specs.Hearings.{got, heard_between, heard_ending}
 use Rattle.file_run.specs.Keeps.{RunKeeps}
-use Rattle.file_run.specs.Readings.{BothGive}
 use Rattle.file_run.specs.Sendings.{SentHeard, SentWhole, SentFront, SentBy}
 use Rattle.file_run.proofs.ReadSteps.{some_map}
 
 -- ---- the lists that were walked, and the lines of their malformed records
 
-pub batches_same : (both : Both) (zeros ones : List Share) → zeros ≡ both.0.shares → ones ≡ both.1.shares → batch zeros ones ≡ batch_for both
-batches_same both zeros ones zero one = ap (λ shares. batch shares ones) zero ∙ ap (batch both.0.shares) one
+pub batches_same : (both : Both) (zeros ones : List Share) → IsPermutation both.0.shares zeros → IsPermutation both.1.shares ones
+    → batch zeros ones ≡ batch_for both
+batches_same both zeros ones zero one =
+    sym (batch_law both.0.shares zeros both.1.shares ones (same_shares both.0.shares zeros zero) (same_shares both.1.shares ones one))
 
 pub lines_same : (both : Both) (malformed0 malformed1 line text : List ℕ) → text ≡ (refused_text Zero malformed0 ++ refused_text One malformed1) ++ line
     → malformed0 ≡ both.0.malformed → malformed1 ≡ both.1.malformed → text ≡ refused_for both ++ line
@@ -145,11 +149,11 @@ module _ (rules : RunRules) (both : Both) where
 -- ---- the promise of the run, where the files go together
 
 module _ (zero one : List ℕ) (rules : RunRules) (before after : Sources) (both : Both)
-    (found : IfSome before.shelf.files (λ held. BothGive (Ok both) (begun zero one held)))
+    (found : IfSome before.shelf.files (λ held. begun zero one held ≡ Ok both))
     (kept : after.shelf.files ≡ before.shelf.files) (later : before.shelf.faults ≤ after.shelf.faults) where
   -- a fact of what the files come to
   of_both : (P : Result Both RunError → Type 0) → P (Ok both) → IfSome before.shelf.files (λ held. P (begun zero one held))
-  of_both P h = some_map before.shelf.files (λ held. BothGive (Ok both) (begun zero one held)) (λ held. P (begun zero one held)) (λ held is. subst P (sym is) h) found
+  of_both P h = some_map before.shelf.files (λ held. begun zero one held ≡ Ok both) (λ held. P (begun zero one held)) (λ held is. subst P (sym is) h) found
 
   pub error_keeps : (e : PairError) → WalkKeeps (settings_for rules both.0.width) (batch_for both) before.link after.link (Err e)
       → RunKeeps zero one rules before after (Err (Walk e))

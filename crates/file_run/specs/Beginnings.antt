@@ -5,8 +5,7 @@ use Rattle.std.specs.FinMap.{get}
 use Rattle.definitions.specs.declared.Side.TheVariants.{Zero, One}
 use Rattle.shelf_io.specs.Files.{Files}
 use Rattle.share_format.specs.declared.file_error.FileError.{FileError}
-use Rattle.share_lists.specs.declared.lists.ShareLists.{ShareLists}
-use Rattle.share_lists.specs.FileLists.{file_lists}
+use Rattle.share_lists.specs.FileLists.{ShareLists, file_lists}
 use Rattle.walk_definitions.specs.Reports.{Report, batch}
 use Rattle.walk_definitions.specs.Walk.{Settings}
 use Rattle.answer_text.specs.RefusedText.{refused_text}

@@ -6,6 +6,7 @@ mod additions;
 mod agreement;
 mod answers;
 mod checking;
+mod collected_walk;
 mod collection;
 mod comparison;
 mod exchange;
@@ -22,6 +23,7 @@ mod totalling;
 mod walking;
 
 pub use crate::answers::{Answer, PairError};
+pub use crate::collected_walk::walk_collected;
 pub use crate::collection::run_pair;
 pub use crate::settings::WalkSettings;
 pub use crate::walking::walk;

@@ -9,4 +9,5 @@ pub mod HeaderSteps
 pub mod WholeLaws
 pub mod ReaderSteps
 pub mod ReaderLaws
+pub mod HeldLaws
 pub mod CallerLaws

@@ -119,7 +119,7 @@ opened_at name side width count head size (Some bytes) judged there =
     let whole_it = judged bytes there.1.0 there.1.1 in (
       ap (opened name side bytes) whole_it.0 ∙ ap (λ n. Ok (start name side width n)) whole_it.1,
       there.0,
-      record { whole_file = whole_it.0; counted = whole_it.1; not_cut = refl },
+      record { whole_file = whole_it.0; counted = whole_it.1; not_cut = refl; held = refl },
     )
 
 -- a file that is opened, and that its reader fits it
@@ -137,7 +137,7 @@ bytes-weaker : (file : Option (List ℕ)) (P Q : List ℕ → Type 0) → ((byte
 bytes-weaker None P Q step p = tt
 bytes-weaker (Some bytes) P Q step p = step bytes p
 
-there-weaker : (told : Option Files) (name : List ℕ) (P Q : List ℕ → Type 0) → ((bytes : List ℕ) → P bytes → Q bytes) → IfThere told name P → IfThere told name Q
+pub there-weaker : (told : Option Files) (name : List ℕ) (P Q : List ℕ → Type 0) → ((bytes : List ℕ) → P bytes → Q bytes) → IfThere told name P → IfThere told name Q
 there-weaker None name P Q step p = tt
 there-weaker (Some held) name P Q step p = bytes-weaker (get held name) P Q step p
 

@@ -6,7 +6,7 @@ use Rattle.share_format.specs.declared.file_error.FileError.TheVariants as error
 use Rattle.share_format.specs.declared.records.Record.{Record}
 use Rattle.share_format.specs.declared.records.Record.TheVariants as given
 use Rattle.share_format.specs.ShareFile.{FileCase, too_long, header_wrong, cut, whole, file_case, RecordCase, well_formed, malformed, record_count}
-use Rattle.share_format.specs.Readings.{Reading, start, advanced, stopped, next_offset}
+use Rattle.share_format.specs.Readings.{Reading, start, advanced, stopped, holding, next_offset}
 
 -- what a file's case opens
 abbrev pub opened : List ℕ → Side → List ℕ → FileCase → Result Reading FileError
@@ -47,14 +47,15 @@ IsGiven width number (given.Malformed told) = told ≡ number
 IsGiven width number given.End = Unit {0}
 
 -- where a reader stands after a call: behind the record that it gave; at the end as before; stopped where a read gave too
--- little, with the offset of the record that was being read; as before where the shelf failed or memory is wanting
+-- little, with the offset of the record that was being read; as before where the shelf failed or memory is wanting. The bytes
+-- that it holds may be others, but at the end
 abbrev pub Stands : Reading → Result Record FileError → Reading → Type 0
-Stands old (Ok (given.Share share)) new = (old.next < old.count) × (new ≡ advanced old)
-Stands old (Ok (given.Malformed number)) new = (old.next < old.count) × (new ≡ advanced old)
+Stands old (Ok (given.Share share)) new = (old.next < old.count) × (new ≡ holding new.held (advanced old))
+Stands old (Ok (given.Malformed number)) new = (old.next < old.count) × (new ≡ holding new.held (advanced old))
 Stands old (Ok given.End) new = (old.next ≡ old.count) × (new ≡ old)
-Stands old (Err (errors.Cut at)) new = (at ≡ next_offset old) × (new ≡ stopped old)
-Stands old (Err errors.Shelf) new = new ≡ old
-Stands old (Err errors.Memory) new = new ≡ old
+Stands old (Err (errors.Cut at)) new = (at ≡ next_offset old) × (new ≡ holding new.held (stopped old))
+Stands old (Err errors.Shelf) new = new ≡ holding new.held old
+Stands old (Err errors.Memory) new = new ≡ holding new.held old
 Stands old (Err errors.Missing) new = ⊥
 Stands old (Err (errors.TooLong length)) new = ⊥
 Stands old (Err (errors.Header at)) new = ⊥

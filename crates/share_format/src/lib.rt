@@ -4,8 +4,10 @@
 
 mod blocks;
 mod file_error;
+mod gathering;
 mod headers;
 pub mod laws;
+mod piece;
 mod record_error;
 mod record_reader;
 mod record_reading;

@@ -1,5 +1,6 @@
 //! Reading of a share file from a shelf, one record at a time.
-//! The file is judged by its length and its header when it is opened; each call then reads the bytes of one record.
+//! The file is judged by its length and its header when it is opened; each call then takes the bytes of one record from a piece
+//! of the file, which is read anew when it is used up.
 
 ghost use Rattle.std.specs.Prelude.{◌≡◌, ◌≢◌, ◌≤◌, ℕ, Some, Ok, Err, [], List, length, take, IfOk, IfErr, IfSome, IsTrue};
 ghost use Rattle.std.specs.FinMap.{get};
@@ -13,7 +14,9 @@ ghost use Rattle.share_format.specs.declared.file_error.FileError.TheVariants.{C
 ghost use Rattle.share_format.specs.declared.records.Record.TheVariants.{End};
 
 use crate::file_error::FileError;
+use crate::gathering::gather;
 use crate::headers::{HEADER_LEN, Header};
+use crate::piece::Piece;
 use crate::record_error::RecordError;
 use crate::record_reading::read_record;
 use crate::record_writing::record_len;
@@ -26,7 +29,8 @@ use std::marker::Model;
 /// The most bytes of a share file.
 const MOST_BYTES: u64 = 1 << 28;
 
-/// Reads the records of a share file in order, from the shelf on which it was opened. It keeps the bytes of one record.
+/// Reads the records of a share file in order, from the shelf on which it was opened. It holds one piece of the file,
+/// 65,536 bytes, and the bytes of one record. However the shelf cuts its reads, the records are the same.
 #[derive(Drop)]
 pub struct RecordReader<'n> {
     alloc: Global,
@@ -36,6 +40,7 @@ pub struct RecordReader<'n> {
     count: u32,
     next: u32,
     cut: bool,
+    piece: Piece,
     buffer: Vec<u8>,
 }
 
@@ -46,10 +51,10 @@ impl<'n> Model for RecordReader<'n> {
 
     ghost Value = { Reading };
 
-    ghost view = { λ r. record { name = r.name.now; side = r.side; width = r.width; count = r.count; next = r.next; cut = r.cut } };
+    ghost view = { λ r. record { name = r.name.now; side = r.side; width = r.width; count = r.count; next = r.next; cut = r.cut; held = r.piece } };
 
     ghost invariant = { λ r.
-        IsSound (record { name = r.name.now; side = r.side; width = r.width; count = r.count; next = r.next; cut = r.cut })
+        IsSound (record { name = r.name.now; side = r.side; width = r.width; count = r.count; next = r.next; cut = r.cut; held = r.piece })
         × (vec_len r.buffer ≡ record_len r.width) };
 }
 
@@ -99,7 +104,7 @@ impl<'n> RecordReader<'n> {
     /// A reader of the file of this name, before its first record. It asks the length, then reads the header. The refusals,
     /// in this order: `Missing` where there is no such file; `TooLong` where it has more than 2^28 bytes; `Header` at its
     /// first byte that is missing or wrong; `Cut` where the bytes behind the header are no whole number of records, with the
-    /// offset at which the last one begins; `Memory` for want of room for one record. `Shelf` comes where the shelf failed.
+    /// offset at which the last one begins; `Memory` for want of room for a piece and one record. `Shelf` comes where the shelf failed.
     /// The content of the shelf stays.
     pub fn open<H: Shelf>(
         alloc: Global,
@@ -124,6 +129,7 @@ impl<'n> RecordReader<'n> {
         let front = &mut head[..size.min(HEADER_LEN as u64) as usize];
         let filled = fill(shelf, name, 0, front)?;
         let (width, count) = judged(&front[..filled], size, side)?;
+        let piece = Piece::new(alloc)?;
         let buffer = vec![in alloc; 0; record_len(width) as usize]?;
         Ok(RecordReader {
             alloc,
@@ -133,6 +139,7 @@ impl<'n> RecordReader<'n> {
             count,
             next: 0,
             cut: false,
+            piece,
             buffer,
         })
     }
@@ -169,7 +176,8 @@ impl<'n> RecordReader<'n> {
         if self.cut {
             return Err(FileError::Cut { at });
         }
-        let filled = fill(shelf, self.name, u64::from(at), &mut self.buffer)?;
+        let from = u64::from(at);
+        let filled = gather(&mut self.piece, shelf, self.name, from, &mut self.buffer)?;
         if filled < self.buffer.len() {
             self.cut = true;
             return Err(FileError::Cut { at });

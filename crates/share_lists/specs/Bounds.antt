@@ -2,7 +2,7 @@
 use Rattle.std.specs.Prelude.{◌≡◌, ◌+◌, ◌*◌, ◌≤◌, length}
 use Rattle.std.specs.List.{All}
 use Rattle.share_format.specs.ShareFile.{record_offset, most_bytes}
-use Rattle.share_lists.specs.declared.lists.ShareLists.{ShareLists}
+use Rattle.share_lists.specs.FileLists.{ShareLists}
 
 -- the width is one that a file may have, and so many records are within the bytes that a file may have
 pub record IsWithinAFile (lists : ShareLists) : Type 0 where

@@ -1,12 +1,18 @@
 -- What a share file comes to: the list of its shares and the numbers of its malformed records, or why it is refused.
 use Rattle.std.specs.Prelude.{ℕ, List, Option, None, Some, Result, Ok, Err}
 use Rattle.definitions.specs.declared.Side.{Side}
+use Rattle.definitions.specs.Evaluation.{Share}
 use Rattle.share_format.specs.declared.file_error.FileError.{FileError}
 use Rattle.share_format.specs.declared.file_error.FileError.TheVariants.{Missing, TooLong, Header, Cut}
 use Rattle.share_format.specs.ShareFile.{FileCase, too_long, header_wrong, cut, whole, file_case, RecordCase, records, shares_of, malformed_from}
-use Rattle.share_lists.specs.declared.lists.ShareLists.{ShareLists}
 
--- what the records of a file come to: the shares of the well-formed ones in order, and the numbers of the others, ascending
+-- the width of a file in bytes, the shares of its well-formed records in order, and the numbers of the others, ascending
+pub record ShareLists : Type 0 where
+  pub width : ℕ
+  pub shares : List Share
+  pub malformed : List ℕ
+
+-- what the records of a file come to
 abbrev pub lists_of : ℕ → List RecordCase → ShareLists
 lists_of width cases = record { width = width; shares = shares_of cases; malformed = malformed_from 0 cases }
 

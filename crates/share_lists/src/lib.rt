@@ -1,11 +1,11 @@
-//! A side's share file read whole: the list of its shares, and the numbers of its malformed records.
+//! A side's share file as lists: its shares, one list of them behind another, and the numbers of its malformed records.
 //! The format and its reader are those of `share_format`; the shares are handed on to the walk.
 #![tactic(auto)]
 
-mod lists;
 mod reading;
+mod share_part;
 #[cfg(test)]
 mod tests;
 
-pub use crate::lists::ShareLists;
-pub use crate::reading::read_shares;
+pub use crate::reading::next_list;
+pub use crate::share_part::SharePart;

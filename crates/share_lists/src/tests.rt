@@ -1,16 +1,16 @@
 //! Small files made by the format's rules, on shelves in memory.
 //! What they hold is stated by the rules too: offsets, ids and levels.
 
-ghost use Rattle.std.specs.Prelude.{◌≡◌, length, IfOk};
+ghost use Rattle.std.specs.Prelude.{◌≡◌, ◌≤◌, length, IfOk};
 
-use crate::{ShareLists, read_shares};
+use crate::{SharePart, next_list};
 use definitions::Sequence;
 use field64::Fe;
 use idpf_eval::{LevelWord, Share};
 use prefix_bits::{ReportId, Side};
 use seed_expand::Seed;
-use share_format::FileError;
-use shelf_io::{Call, FirmShelf, MemoryShelf};
+use share_format::{FileError, RecordReader};
+use shelf_io::{Call, FirmShelf, MemoryShelf, Shelf};
 use std::alloc::{AllocError, Global};
 use std::test::Fail;
 
@@ -66,46 +66,57 @@ fn share(alloc: Global, line: u64, right: bool) -> Result<Share, AllocError>
     })
 }
 
+// The first two lists of the file "f" of side 0, with so many shares at most.
+fn two_lists<H: Shelf>(
+    alloc: Global,
+    shelf: &mut H,
+    most: usize,
+    malformed: &mut Sequence<u32>,
+) -> Result<[SharePart; 2], FileError>
+    requires some { 1 ≤ most }
+{
+    let mut reader = RecordReader::open(alloc, shelf, "f", Side::Zero)?;
+    let first = next_list(alloc, shelf, &mut reader, most, malformed)?;
+    let second = next_list(alloc, shelf, &mut reader, most, malformed)?;
+    Ok([first, second])
+}
+
 #[test]
 fn shares_and_malformed_records_stand_apart(rt: HostRuntime) -> Result<(), Fail> {
     let alloc = rt.alloc();
     let mut shelf = FirmShelf::new(alloc).with("f", &three_records(alloc)?)?;
-    let read = read_shares(alloc, &mut shelf, "f", Side::Zero)?;
-    let mut expected = ShareLists {
-        width: 1,
-        shares: Sequence::new(alloc),
-        malformed: Sequence::new(alloc),
-    };
-    expected.shares.push(share(alloc, 0, false)?)?;
-    expected.shares.push(share(alloc, 2, true)?)?;
-    expected.malformed.push(1)?;
-    assert_eq!(rt; read, expected);
+    let mut malformed = Sequence::new(alloc);
+    let [all, none] = two_lists(alloc, &mut shelf, 1024, &mut malformed)?;
+    assert!(rt; all.shares.len() == 2 && !all.more);
+    assert!(rt; all.shares.as_slice()[0] == share(alloc, 0, false)? && all.shares.as_slice()[1] == share(alloc, 2, true)?);
+    assert!(rt; none.shares.len() == 0 && !none.more);
+    assert!(rt; malformed.as_slice() == [1]);
     Ok(())
 }
 
 #[test]
-fn a_header_alone_has_no_record(rt: HostRuntime) -> Result<(), Fail> {
+fn a_list_has_as_many_shares_as_it_may(rt: HostRuntime) -> Result<(), Fail> {
     let alloc = rt.alloc();
-    let mut shelf = FirmShelf::new(alloc).with("f", &HEADER)?;
-    let read = read_shares(alloc, &mut shelf, "f", Side::Zero)?;
-    assert_eq!(rt; read.width, 1);
-    assert_eq!(rt; (read.shares.len(), read.malformed.len()), (0, 0));
+    let mut shelf = FirmShelf::new(alloc).with("f", &three_records(alloc)?)?;
+    let mut malformed = Sequence::new(alloc);
+    let [first, second] = two_lists(alloc, &mut shelf, 1, &mut malformed)?;
+    assert!(rt; first.shares.len() == 1 && first.more && second.shares.len() == 1 && second.more);
+    assert!(rt; first.shares.as_slice()[0] == share(alloc, 0, false)? && second.shares.as_slice()[0] == share(alloc, 2, true)?);
+    assert!(rt; malformed.as_slice() == [1]);
     Ok(())
 }
 
+// The file's records all lie in one piece, which is the second read; the first is that of the header.
 #[test]
-fn files_that_are_not_read(rt: HostRuntime) -> Result<(), Fail> {
+fn a_failed_read_is_told(rt: HostRuntime) -> Result<(), Fail> {
     let alloc = rt.alloc();
-    let file = three_records(alloc)?;
-    let mut shelf = FirmShelf::new(alloc).with("f", &file)?;
-    let missing = read_shares(alloc, &mut shelf, "g", Side::Zero);
-    assert_eq!(rt; missing, Err(FileError::Missing));
-    let other = read_shares(alloc, &mut shelf, "f", Side::One);
-    assert_eq!(rt; other, Err(FileError::Header { at: 5 }));
     let mut fail = Vec::new(alloc);
-    fail.push((Call::Read, 3))?;
-    let mut failing = MemoryShelf::new(alloc, fail).with("f", &file)?;
-    let failed = read_shares(alloc, &mut failing, "f", Side::Zero);
-    assert_eq!(rt; failed, Err(FileError::Shelf));
+    fail.push((Call::Read, 2))?;
+    let mut failing = MemoryShelf::new(alloc, fail).with("f", &three_records(alloc)?)?;
+    let mut malformed = Sequence::new(alloc);
+    match two_lists(alloc, &mut failing, 1024, &mut malformed) {
+        Ok(_) => assert!(rt; false),
+        Err(error) => assert_eq!(rt; error, FileError::Shelf),
+    }
     Ok(())
 }

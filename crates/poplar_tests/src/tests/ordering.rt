@@ -45,6 +45,8 @@ const NAMES: [&str; 10] = [
     "cut0",
 ];
 
+// The reads of a file whose records lie in one piece are two: that of its header, and that of the piece, where it has records.
+
 // The words of `eval`: the words before the file, the file and its first record, the prefix and the records.
 const OF_EVAL: [Case; 6] = [
     (&["eval", "0", "2", "f0"], (Call::Length, 1), FIRM, 1, USAGE),
@@ -76,7 +78,7 @@ const OF_EVAL: [Case; 6] = [
         1,
         (4, "", "prefix of 17 bits is longer than width 2\n"),
     ),
-    (&["eval", "0", "1", "f0"], (Call::Read, 4), FIRM, 1, SHELF),
+    (&["eval", "0", "1", "f0"], (Call::Read, 2), FIRM, 1, SHELF),
 ];
 
 // `run`: the words, file 0 whole before file 1, the widths, the messages of a level before its cap, and the sinks.
@@ -104,21 +106,21 @@ const OF_RUN: [Case; 11] = [
     ),
     (
         &["run", "--threshold", "2", "f0", "nothere"],
-        (Call::Read, 4),
+        (Call::Read, 2),
         FIRM,
         1,
         SHELF,
     ),
     (
         &["run", "--threshold", "2", "f0", "cut1"],
-        (Call::Read, 6),
+        (Call::Read, 4),
         FIRM,
         1,
         (3, "", "share file 1: cut at byte 2248\n"),
     ),
     (
         &["run", "--threshold", "2", "head0", "f1"],
-        (Call::Read, 5),
+        (Call::Read, 3),
         FIRM,
         1,
         SHELF,

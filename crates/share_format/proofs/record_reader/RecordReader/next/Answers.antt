@@ -9,6 +9,6 @@ returns-then-self-clause-exact g c =
 
 pub returns-clause-exact : goal.returns-clause-exact
 returns-clause-exact g c =
-    given_answer (g.H.Shelf.files c.args.shelf.now) c.args.self.now c.fill.new.into (length c.deref_mut.result.now) c.in_ok-filled.filled c.self.inside.next c.self.inside.width c.deref.result.now c.in_ok-record.record c.requires.fits
+    given_answer (g.H.Shelf.files c.args.shelf.now) c.args.self.now c.gather.new.into (length c.deref_mut.result.now) c.in_ok-filled.filled c.self.inside.next c.self.inside.width c.deref.result.now c.in_ok-record.record c.requires.fits
     (search rules) (search rules) (search rules) (search rules) c.in_ok-record.ensures.exact (search rules) (search rules)
-    (c.deref.ensures.value ∙ take_at c.fill.new.into _ c.self.inside.buffer.len (search rules))
+    (c.deref.ensures.value ∙ take_at c.gather.new.into _ c.self.inside.buffer.len (search rules))

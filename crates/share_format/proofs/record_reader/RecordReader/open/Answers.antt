@@ -24,13 +24,13 @@ returns-clause-exact g c =
     let there = front_there (g.H.Shelf.files c.args.shelf.now) (g.H.Shelf.files c.length.new.self) c.args.name.now c.fill.new.into c.in_ok-size.field-0
     c.in-Some.size _ c.in_ok-filled.filled c.in_ok-size.ensures.kept c.in-Some.is c.in_ok-size.ensures.found
     (length-room c.in-Some.size c.min.result c.min.ensures) c.in_ok-filled.ensures.bytes in
-    opened_answer (g.H.Shelf.files c.args.shelf.now) c.args.name.now c.args.side c.in_ok-width.width c.in_ok-width.count
-    (take c.in_ok-filled.filled c.fill.new.into) c.in-Some.size c.in_ok-width.ensures.exact there
+    rw c.in_ok-piece.ensures.empty (opened_answer (g.H.Shelf.files c.args.shelf.now) c.args.name.now c.args.side c.in_ok-width.width c.in_ok-width.count
+    (take c.in_ok-filled.filled c.fill.new.into) c.in-Some.size c.in_ok-width.ensures.exact there)
 
 pub returns-clause-fits : goal.returns-clause-fits
 returns-clause-fits g c =
     let there = front_there (g.H.Shelf.files c.args.shelf.now) (g.H.Shelf.files c.length.new.self) c.args.name.now c.fill.new.into c.in_ok-size.field-0
     c.in-Some.size _ c.in_ok-filled.filled c.in_ok-size.ensures.kept c.in-Some.is c.in_ok-size.ensures.found
     (length-room c.in-Some.size c.min.result c.min.ensures) c.in_ok-filled.ensures.bytes in
-    opened_fits (g.H.Shelf.files c.args.shelf.now) (g.H.Shelf.files c.fill.new.shelf) c.args.name.now c.args.side c.in_ok-width.width c.in_ok-width.count
-    (take c.in_ok-filled.filled c.fill.new.into) c.in-Some.size (c.in_ok-filled.ensures.kept ∙ c.in_ok-size.ensures.kept) c.in_ok-width.ensures.exact there
+    rw c.in_ok-piece.ensures.empty (opened_fits (g.H.Shelf.files c.args.shelf.now) (g.H.Shelf.files c.fill.new.shelf) c.args.name.now c.args.side c.in_ok-width.width c.in_ok-width.count
+    (take c.in_ok-filled.filled c.fill.new.into) c.in-Some.size (c.in_ok-filled.ensures.kept ∙ c.in_ok-size.ensures.kept) c.in_ok-width.ensures.exact there)
