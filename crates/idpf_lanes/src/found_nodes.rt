@@ -12,6 +12,7 @@ use prefix_bits::{Prefix, Side};
 pub(crate) fn first_missing(found: &[Option<Node>]) -> usize
     ensures most { result ≤ length found.now }
     ensures found { (k : ℕ) → k < result → IsSome (slice_index_or found.now k None) }
+    ensures missing { result < length found.now → IsNone (slice_index_or found.now result None) }
 {
     for k in 0..found.len() {
         if found[k].is_none() {
