@@ -1,5 +1,5 @@
 -- What the reading of a side's file list by list gathers, and what was gathered at its end.
-use Rattle.std.proofs.Common.{◌≡◌, ◌≢◌, ℕ, ◌+◌, ◌*◌, ◌≤◌, ◌<◌, Bool, true, false, List, [], ◌++◌, Option, None, Some, Result, Ok, Err, length, take, refl, sym, ap, subst, ◌∙◌, arith, append-nil}
+use Rattle.std.proofs.Common.{◌≡◌, ◌≢◌, ℕ, ◌+◌, ◌*◌, ◌^◌, ◌≤◌, ◌<◌, Bool, true, false, List, [], ◌++◌, Option, None, Some, Result, Ok, Err, length, take, refl, sym, ap, subst, ◌∙◌, arith, append-nil}
 use Rattle.std.specs.Prelude.{IfSome, IsSome}
 use Rattle.std.specs.List.{All}
 use Rattle.std.specs.FinMap.{get}
@@ -32,7 +32,7 @@ there_all : (told : Option Files) (name : List ℕ) (P : List ℕ → Type 0) �
 there_all None name P f = tt
 there_all (Some held) name P f = some_all (get held name) P f
 
-no_lists : ℕ → ShareLists
+abbrev no_lists : ℕ → ShareLists
 no_lists width = record { width = width; shares = []; malformed = [] }
 
 -- before the first record nothing is gathered
@@ -48,7 +48,7 @@ gathered_first told reader numbers collected first no_numbers none = record {
         (λ bytes. ap (λ k. lists_of reader.width (take k (records reader.width bytes))) (sym first));
   };
   all = λ e. absurd cc;
-  numbers = sym no_numbers;
+  refused = sym no_numbers;
   same = subst (λ (ss : List Share). IsPermutation [] ss) (sym none) (IsPermutation-refl []);
 }
 
@@ -62,12 +62,12 @@ pub gathered_more : (told : Option Files) (old new : Reading) (more : Bool) (num
     → Gathered told old true numbers collected → GoOn told old [] numbers new shares longer → (more ≡ false → EndSo told old [] numbers new shares longer)
     → IsPermutation (collected ++ shares) now → Gathered told new more longer now
 gathered_more told old new more numbers longer collected shares now g goes ends added =
-    let before : AreSoFar told old (with_part g.lists [] numbers) = subst (λ ls. AreSoFar told old ls) (same_part g.lists numbers g.numbers) g.so_far in
+    let before : AreSoFar told old (with_part g.lists [] numbers) = subst (λ ls. AreSoFar told old ls) (same_part g.lists numbers g.refused) g.so_far in
     record {
       lists = with_part g.lists shares longer;
       so_far = goes g.lists before;
       all = λ e. ends e g.lists before;
-      numbers = refl;
+      refused = refl;
       same = IsPermutation-trans _ _ _ (IsPermutation-append_left shares g.lists.shares collected g.same) added;
     }
 
@@ -102,8 +102,8 @@ pub is_read : (first told : Option Files) (reader : Reading) (side : Side) (name
     → IsRead first side name reader.width numbers collected
 is_read first told reader side name numbers collected same s n fits sound g = record {
   lists = g.lists;
-  width = g.so_far.width;
-  numbers = g.numbers;
+  wide = g.so_far.width;
+  refused = g.refused;
   same = g.same;
   within = within_of told reader g.lists sound g.so_far;
   levels = g.so_far.levels;
@@ -171,7 +171,7 @@ next_stops first told name here side e same n there h =
 pub levels_read : (told : Option Files) (side : Side) (name : List ℕ) (width bits : ℕ) (numbers : List ℕ) (collected : List Share) → bits ≡ 8 * width
     → IsRead told side name width numbers collected → All (λ s. length s.levels ≡ bits) collected
 levels_read told side name width bits numbers collected same read =
-    let are : 8 * read.lists.width ≡ bits = omega (arith, same, read.width) in
+    let are : 8 * read.lists.width ≡ bits = omega (arith, same, read.wide) in
     All-permutation (λ (s : Share). length s.levels ≡ bits) read.lists.shares collected read.same
     (subst (λ b. All (λ (s : Share). length s.levels ≡ b) read.lists.shares) are read.levels)
 

@@ -9,7 +9,7 @@ use Rattle.shelf_io.specs.Files.{Files}
 use Rattle.share_format.specs.Causes.{Gives}
 use Rattle.share_format.specs.declared.file_error.FileError.{FileError}
 use Rattle.share_format.specs.declared.file_error.FileError.TheVariants as files
-use Rattle.share_lists.specs.FileLists.{ShareLists}
+use Rattle.share_lists.specs.FileLists.{ShareLists, file_lists}
 use Rattle.file_run.specs.declared.errors.RunError.{RunError}
 use Rattle.file_run.specs.declared.errors.RunError.TheVariants.{File, Widths}
 use Rattle.file_run.specs.Beginnings.{Both, both_lists, begun}
@@ -102,15 +102,17 @@ one_stops told mid zero one zeros e same is h =
     (subst (λ t. IfSome t (λ held. SideStops One e (file_lists One (get held one)))) same h)
 
 -- both were read, and their widths differ
-pub widths_stop : (told mid : Option Files) (zero one : List ℕ) (zeros ones : ShareLists) → mid ≡ told
-    → IfSome told (λ held. file_lists Zero (get held zero) ≡ Ok zeros) → IfSome mid (λ held. file_lists One (get held one) ≡ Ok ones)
-    → (zeros.width ≡ ones.width → ⊥) → IfSome told (λ held. BothStop (Widths zeros.width ones.width) (begun zero one held))
+pub widths_stop : (told mid : Option Files) (zero one : List ℕ) (zeros ones : ShareLists) (wide0 wide1 : ℕ) → zeros.width ≡ wide0 → ones.width ≡ wide1
+    → mid ≡ told → IfSome told (λ held. file_lists Zero (get held zero) ≡ Ok zeros) → IfSome mid (λ held. file_lists One (get held one) ≡ Ok ones)
+    → (wide0 ≡ wide1 → ⊥) → IfSome told (λ held. BothStop (Widths wide0 wide1) (begun zero one held))
 unfolding begun
-widths_stop told mid zero one zeros ones same z o differ =
-    some_both told (λ held. file_lists Zero (get held zero) ≡ Ok zeros) (λ held. file_lists One (get held one) ≡ Ok ones)
+widths_stop told mid zero one zeros ones wide0 wide1 zw ow same z o differ =
+    subst (λ w. IfSome told (λ held. BothStop (Widths wide0 w) (begun zero one held))) ow
+    (subst (λ w. IfSome told (λ held. BothStop (Widths w ones.width) (begun zero one held))) zw
+    (some_both told (λ held. file_lists Zero (get held zero) ≡ Ok zeros) (λ held. file_lists One (get held one) ≡ Ok ones)
     (λ held. BothStop (Widths zeros.width ones.width) (begun zero one held))
-    (λ held zh oh. inr (both_differ zeros ones (file_lists Zero (get held zero)) (file_lists One (get held one)) zh oh differ)) z
-    (subst (λ t. IfSome t (λ held. file_lists One (get held one) ≡ Ok ones)) same o)
+    (λ held zh oh. inr (both_differ zeros ones (file_lists Zero (get held zero)) (file_lists One (get held one)) zh oh (λ e. differ (sym zw ∙ e ∙ ow)))) z
+    (subst (λ t. IfSome t (λ held. file_lists One (get held one) ≡ Ok ones)) same o)))
 
 -- both were read, and go together
 pub both_begun : (told : Option Files) (zero one : List ℕ) (zeros ones : ShareLists)

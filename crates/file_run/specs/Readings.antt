@@ -25,15 +25,15 @@ pub record Gathered (told : Option Files) (reader : Reading) (more : Bool) (numb
   pub lists : ShareLists
   pub so_far : AreSoFar told reader lists
   pub all : more ≡ false → AreAll told reader lists
-  pub numbers : lists.malformed ≡ numbers
+  pub refused : lists.malformed ≡ numbers
   pub same : IsPermutation lists.shares collected
 
 -- a side's file was read: it comes to lists of this width and with these numbers of malformed records, whose shares were collected,
 -- up to order
 pub record IsRead (told : Option Files) (side : Side) (name : List ℕ) (width : ℕ) (numbers : List ℕ) (collected : List Share) : Type 0 where
   pub lists : ShareLists
-  pub width : lists.width ≡ width
-  pub numbers : lists.malformed ≡ numbers
+  pub wide : lists.width ≡ width
+  pub refused : lists.malformed ≡ numbers
   pub same : IsPermutation lists.shares collected
   pub within : IsWithinAFile lists
   pub levels : HaveLevels lists

@@ -3,7 +3,7 @@ use Rattle.definitions.specs.declared.Side.TheVariants.{Zero, One}
 use Rattle.answer_text.specs.AnswerText.{sealed_line}
 use Rattle.walk_definitions.specs.Reports.{batch}
 use Rattle.shelf_io.specs.Seen.{sources}
-use Rattle.file_run.specs.Beginnings.{settings_for, batch_for}
+use Rattle.file_run.specs.Beginnings.{Both, settings_for, batch_for}
 use Rattle.file_run.proofs.ReadSteps.{both_begun}
 use Rattle.file_run.proofs.CollectSteps.{levels_read, few_read}
 use Rattle.file_run.proofs.WalkSteps.{batches_same, lines_same, same_walk, error_keeps, texts_keeps, no_texts_keeps}
@@ -37,17 +37,17 @@ returns-in-Ok-texts_of g c =
     let rules = c.args.rules.now in
     let read = c.in-Ok.read in
     let zeros = c.in-Ok.ensures.read.zeros in let ones = c.in-Ok.ensures.read.ones in
-    let both = (zeros.lists, ones.lists) in
+    let both : Both = (zeros.lists, ones.lists) in
     let answer = c.in-Ok-walked.answer in let texts = c.in-Ok-texts_of.texts in
     texts_keeps c.args.zero.now c.args.one.now rules
     (sources g.H.Shelf g.L.Link c.args.shelf.now c.args.link.now)
     (sources g.H.Shelf g.L.Link c.collect_both.new.shelf c.walk_collected-walked.new.link)
-    both (both_begun (g.H.Shelf.files c.args.shelf.now) c.args.zero.now c.args.one.now zeros.lists ones.lists zeros.exact ones.exact (zeros.width ∙ sym ones.width))
+    both (both_begun (g.H.Shelf.files c.args.shelf.now) c.args.zero.now c.args.one.now zeros.lists ones.lists zeros.exact ones.exact (zeros.wide ∙ sym ones.wide))
     c.in-Ok.ensures.kept c.in-Ok.ensures.cause.later texts answer c.in-Ok-texts_of.ensures.out
     (lines_same both c.as_slice-malformed0.result.now c.as_slice-malformed1.result.now (sealed_line answer.sealed answer.passed answer.levels) texts.err.items
-    c.in-Ok-texts_of.ensures.err (c.as_slice-malformed0.ensures.same ∙ sym zeros.numbers) (c.as_slice-malformed1.ensures.same ∙ sym ones.numbers))
+    c.in-Ok-texts_of.ensures.err (c.as_slice-malformed0.ensures.same ∙ sym zeros.refused) (c.as_slice-malformed1.ensures.same ∙ sym ones.refused))
     (same_walk _ (settings_for rules zeros.lists.width) _ (batch_for both) _ _ _
-    (c.walk_settings-settings.ensures.rules ∙ ap (settings_for rules) (sym zeros.width))
+    (c.walk_settings-settings.ensures.rules ∙ ap (settings_for rules) (sym zeros.wide))
     (batches_same both read.collect.zero read.collect.one zeros.same ones.same) c.in-Ok-walked.ensures)
 
 pub returns : goal.returns
@@ -55,14 +55,14 @@ returns g c =
     let rules = c.args.rules.now in
     let read = c.in-Ok.read in
     let zeros = c.in-Ok.ensures.read.zeros in let ones = c.in-Ok.ensures.read.ones in
-    let both = (zeros.lists, ones.lists) in
+    let both : Both = (zeros.lists, ones.lists) in
     no_texts_keeps c.args.zero.now c.args.one.now rules
     (sources g.H.Shelf g.L.Link c.args.shelf.now c.args.link.now)
     (sources g.H.Shelf g.L.Link c.collect_both.new.shelf c.walk_collected-walked.new.link)
-    both (both_begun (g.H.Shelf.files c.args.shelf.now) c.args.zero.now c.args.one.now zeros.lists ones.lists zeros.exact ones.exact (zeros.width ∙ sym ones.width))
+    both (both_begun (g.H.Shelf.files c.args.shelf.now) c.args.zero.now c.args.one.now zeros.lists ones.lists zeros.exact ones.exact (zeros.wide ∙ sym ones.wide))
     c.in-Ok.ensures.kept c.in-Ok.ensures.cause.later c.in-Ok-walked.answer
     (same_walk _ (settings_for rules zeros.lists.width) _ (batch_for both) _ _ _
-    (c.walk_settings-settings.ensures.rules ∙ ap (settings_for rules) (sym zeros.width))
+    (c.walk_settings-settings.ensures.rules ∙ ap (settings_for rules) (sym zeros.wide))
     (batches_same both read.collect.zero read.collect.one zeros.same ones.same) c.in-Ok-walked.ensures)
 
 pub returns-in-Err-walked : goal.returns-in-Err-walked
@@ -70,12 +70,12 @@ returns-in-Err-walked g c =
     let rules = c.args.rules.now in
     let read = c.in-Ok.read in
     let zeros = c.in-Ok.ensures.read.zeros in let ones = c.in-Ok.ensures.read.ones in
-    let both = (zeros.lists, ones.lists) in
+    let both : Both = (zeros.lists, ones.lists) in
     error_keeps c.args.zero.now c.args.one.now rules
     (sources g.H.Shelf g.L.Link c.args.shelf.now c.args.link.now)
     (sources g.H.Shelf g.L.Link c.collect_both.new.shelf c.walk_collected-walked.new.link)
-    both (both_begun (g.H.Shelf.files c.args.shelf.now) c.args.zero.now c.args.one.now zeros.lists ones.lists zeros.exact ones.exact (zeros.width ∙ sym ones.width))
+    both (both_begun (g.H.Shelf.files c.args.shelf.now) c.args.zero.now c.args.one.now zeros.lists ones.lists zeros.exact ones.exact (zeros.wide ∙ sym ones.wide))
     c.in-Ok.ensures.kept c.in-Ok.ensures.cause.later c.in-Err-walked.error
     (same_walk _ (settings_for rules zeros.lists.width) _ (batch_for both) _ _ _
-    (c.walk_settings-settings.ensures.rules ∙ ap (settings_for rules) (sym zeros.width))
+    (c.walk_settings-settings.ensures.rules ∙ ap (settings_for rules) (sym zeros.wide))
     (batches_same both read.collect.zero read.collect.one zeros.same ones.same) c.in-Err-walked.ensures)
