@@ -41,7 +41,7 @@ returns-clause-below1 g c =
     (returns-clause-sums1 g c)
 
 pub both_sums-requires-clause-caches : goal.both_sums-requires-clause-caches
-both_sums-requires-clause-caches g c =
+both_sums-requires-clause-caches g c κs within =
     caches_as c.args.batch.now c.args.settings.now.workers c.args.caches.now c.args.hold.now c.side_plan-zero.result.shares c.side_plan-one.result.shares
     (ap (λ (p : PlanSeen). p.shares) c.side_plan-zero.ensures.exact) (ap (λ (p : PlanSeen). p.shares) c.side_plan-one.ensures.exact) c.requires.caches
 

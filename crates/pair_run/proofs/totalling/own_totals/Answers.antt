@@ -35,7 +35,7 @@ returns-clause-below1 g c =
     totals_below c.args.candidates.now One (picked c.args.batch.now c.args.passed.now) c.in_ok-both_totals.field-0.1.items (returns-clause-totals1 g c)
 
 pub both_totals-requires-clause-caches : goal.both_totals-requires-clause-caches
-both_totals-requires-clause-caches g c =
+both_totals-requires-clause-caches g c κs within =
     caches_as c.args.batch.now c.args.settings.now.workers c.args.caches.now c.args.hold.now c.side_plan-zero.result.shares c.side_plan-one.result.shares
     (ap (λ (p : PlanSeen). p.shares) c.side_plan-zero.ensures.exact) (ap (λ (p : PlanSeen). p.shares) c.side_plan-one.ensures.exact) c.requires.caches
 
