@@ -93,7 +93,7 @@ fn shares_and_malformed_records_stand_apart(rt: HostRuntime) -> Result<(), Fail>
             && all.shares.as_slice()[1] == share(alloc, 2, true)?
     );
     assert!(rt; none.shares.len() == 0 && !none.more);
-    assert!(rt; malformed.as_slice() == [1]);
+    assert!(rt; malformed.as_slice() == [1].as_slice());
     Ok(())
 }
 
@@ -108,7 +108,7 @@ fn a_list_has_as_many_shares_as_it_may(rt: HostRuntime) -> Result<(), Fail> {
         first.shares.as_slice()[0] == share(alloc, 0, false)?
             && second.shares.as_slice()[0] == share(alloc, 2, true)?
     );
-    assert!(rt; malformed.as_slice() == [1]);
+    assert!(rt; malformed.as_slice() == [1].as_slice());
     Ok(())
 }
 
