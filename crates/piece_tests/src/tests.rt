@@ -76,9 +76,11 @@ fn finds_all<R: Threads + Wait + Sync>(
     let status = poplar(
         rt, alloc, &words, shelf, &mut out, &mut err, &mut link, &OpenGate,
     );
-    Ok(status == 0
-        && out.bytes() == b"120\ta\n".as_slice()
-        && err.bytes() == b"sealed 120 passed 120 levels 8\n".as_slice())
+    Ok(
+        status == 0
+            && out.bytes() == b"120\ta\n".as_slice()
+            && err.bytes() == b"sealed 120 passed 120 levels 8\n".as_slice(),
+    )
 }
 
 // What `eval` of side 0 at the prefix 1 gives: the status, out and err.
@@ -98,7 +100,10 @@ fn however_a_shelf_cuts_its_reads(rt: HostRuntime) -> Result<(), AllocError> {
     for most in [1, 7, 600, 1200, 65_536] {
         let mut shelf = made(rt.alloc(), most)?;
         assert!(rt; has_bytes(&shelf, "f0", 72_008) && has_bytes(&shelf, "f1", 72_008));
-        assert!(rt; finds_all(&rt, rt.alloc(), &mut shelf)?, "{most} bytes a read");
+        assert!(rt;
+            finds_all(&rt, rt.alloc(), &mut shelf)?,
+            "{most} bytes a read"
+        );
     }
     Ok(())
 }

@@ -88,9 +88,12 @@ fn shares_and_malformed_records_stand_apart(rt: HostRuntime) -> Result<(), Fail>
     let mut malformed = Sequence::new(alloc);
     let [all, none] = two_lists(alloc, &mut shelf, 1024, &mut malformed)?;
     assert!(rt; all.shares.len() == 2 && !all.more);
-    assert!(rt; all.shares.as_slice()[0] == share(alloc, 0, false)? && all.shares.as_slice()[1] == share(alloc, 2, true)?);
+    assert!(rt;
+        all.shares.as_slice()[0] == share(alloc, 0, false)?
+            && all.shares.as_slice()[1] == share(alloc, 2, true)?
+    );
     assert!(rt; none.shares.len() == 0 && !none.more);
-    assert!(rt; malformed.as_slice() == [1]);
+    assert!(rt; malformed.as_slice() == [1].as_slice());
     Ok(())
 }
 
@@ -101,8 +104,11 @@ fn a_list_has_as_many_shares_as_it_may(rt: HostRuntime) -> Result<(), Fail> {
     let mut malformed = Sequence::new(alloc);
     let [first, second] = two_lists(alloc, &mut shelf, 1, &mut malformed)?;
     assert!(rt; first.shares.len() == 1 && first.more && second.shares.len() == 1 && second.more);
-    assert!(rt; first.shares.as_slice()[0] == share(alloc, 0, false)? && second.shares.as_slice()[0] == share(alloc, 2, true)?);
-    assert!(rt; malformed.as_slice() == [1]);
+    assert!(rt;
+        first.shares.as_slice()[0] == share(alloc, 0, false)?
+            && second.shares.as_slice()[0] == share(alloc, 2, true)?
+    );
+    assert!(rt; malformed.as_slice() == [1].as_slice());
     Ok(())
 }
 
