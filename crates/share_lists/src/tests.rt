@@ -81,18 +81,20 @@ fn two_lists<H: Shelf>(
     Ok([first, second])
 }
 
+// Whether a list has just these shares, and tells so of more.
+fn is_list(part: &SharePart, shares: &[Share], more: bool) -> bool {
+    part.more == more && part.shares.as_slice() == shares
+}
+
 #[test]
 fn shares_and_malformed_records_stand_apart(rt: HostRuntime) -> Result<(), Fail> {
     let alloc = rt.alloc();
     let mut shelf = FirmShelf::new(alloc).with("f", &three_records(alloc)?)?;
     let mut malformed = Sequence::new(alloc);
-    let [all, none] = two_lists(alloc, &mut shelf, 1024, &mut malformed)?;
-    assert!(rt; all.shares.len() == 2 && !all.more);
-    assert!(rt;
-        all.shares.as_slice()[0] == share(alloc, 0, false)?
-            && all.shares.as_slice()[1] == share(alloc, 2, true)?
-    );
-    assert!(rt; none.shares.len() == 0 && !none.more);
+    let good = [share(alloc, 0, false)?, share(alloc, 2, true)?];
+    let lists = two_lists(alloc, &mut shelf, 1024, &mut malformed)?;
+    assert!(rt; is_list(&lists[0], &good, false));
+    assert!(rt; is_list(&lists[1], &[], false));
     assert!(rt; malformed.as_slice() == [1].as_slice());
     Ok(())
 }
@@ -102,12 +104,11 @@ fn a_list_has_as_many_shares_as_it_may(rt: HostRuntime) -> Result<(), Fail> {
     let alloc = rt.alloc();
     let mut shelf = FirmShelf::new(alloc).with("f", &three_records(alloc)?)?;
     let mut malformed = Sequence::new(alloc);
-    let [first, second] = two_lists(alloc, &mut shelf, 1, &mut malformed)?;
-    assert!(rt; first.shares.len() == 1 && first.more && second.shares.len() == 1 && second.more);
-    assert!(rt;
-        first.shares.as_slice()[0] == share(alloc, 0, false)?
-            && second.shares.as_slice()[0] == share(alloc, 2, true)?
-    );
+    let first = [share(alloc, 0, false)?];
+    let second = [share(alloc, 2, true)?];
+    let lists = two_lists(alloc, &mut shelf, 1, &mut malformed)?;
+    assert!(rt; is_list(&lists[0], &first, true));
+    assert!(rt; is_list(&lists[1], &second, true));
     assert!(rt; malformed.as_slice() == [1].as_slice());
     Ok(())
 }
