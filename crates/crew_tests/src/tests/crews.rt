@@ -7,7 +7,7 @@ use eval_cache::EvalCache;
 use field64::Fe;
 use gates::{DrillGate, Hold, HoldGate};
 use phase_state::Kind;
-use phase_workers::{Crew, Phase, run_both, run_phase};
+use phase_workers::{Crew, Phase, run_phase};
 use prefix_bits::Prefix;
 use shelf_io::OpenGate;
 use std::alloc::AllocError;
@@ -75,26 +75,6 @@ fn a_phase_without_reports(rt: HostRuntime) -> Result<(), AllocError> {
 }
 
 #[test]
-fn both_sides_at_once(rt: HostRuntime) -> Result<(), AllocError> {
-    let trial = Trial::new(rt.alloc(), 3, 8)?;
-    let zero = plan_of(&trial, Side::Zero, Kind::Totals, Cut::Small);
-    let one = plan_of(&trial, Side::One, Kind::Totals, Cut::Single);
-    assert!(rt; zero.is_some() && one.is_some());
-    let (Some(zero), Some(one)) = (zero, one) else {
-        return Ok(());
-    };
-    let shares = trial.shares.as_slice();
-    let (cache0, passes0) = EvalCache::new(rt.alloc(), shares, Side::Zero, 16, 4, 3)?;
-    let (cache1, passes1) = EvalCache::new(rt.alloc(), shares, Side::One, 1, 1, 4)?;
-    let zero = Crew::new(rt.alloc(), zero, &cache0, passes0, 2)?;
-    let one = Crew::new(rt.alloc(), one, &cache1, passes1, 3)?;
-    let (zero, one) = run_both(&rt, zero, one, &OpenGate);
-    assert!(rt; trial.has_totals(Side::Zero, zero.finished.totals()));
-    assert!(rt; trial.has_totals(Side::One, one.finished.totals()));
-    Ok(())
-}
-
-#[test]
 fn two_workers_meet(rt: HostRuntime) -> Result<(), AllocError> {
     let trial = Trial::new(rt.alloc(), 3, 8)?;
     let made = plan_of(&trial, Side::Zero, Kind::Totals, Cut::Small);
@@ -130,12 +110,13 @@ fn cache_is_used(rt: HostRuntime) -> Result<(), AllocError> {
     let Some(pass) = passes.pop() else {
         unreachable!()
     };
-    let prefixes = [Prefix::empty().child(false), Prefix::empty().child(true)];
+    let (first, second) = (Prefix::empty().child(false), Prefix::empty().child(true));
+    let prefixes = [first, second];
     let mut into = [None, None];
     cache.gather(&rt, pass, 0, &prefixes, &mut into);
-    assert!(rt; into[0].is_some());
-    assert!(rt; into[0] == trial.first_node(Side::Zero, &prefixes[0]));
-    assert!(rt; into[1].is_some());
-    assert!(rt; into[1] == trial.first_node(Side::Zero, &prefixes[1]));
+    let (found0, found1) = (into[0], into[1]);
+    assert!(rt; found0.is_some() && found1.is_some());
+    assert!(rt; found0 == trial.first_node(Side::Zero, &first));
+    assert!(rt; found1 == trial.first_node(Side::Zero, &second));
     Ok(())
 }
