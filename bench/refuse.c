@@ -3,11 +3,13 @@
 //   REFUSE_CALL=K     the K-th call of open, statx, lseek, read and write fails with EIO
 //   SHORT_CALL=K      that call moves one byte, where it is a read or a write of more
 //   SHORT_EACH=1      each read and each write moves one byte
-//   COUNT_TO=FILE     at the end FILE gets the number of growths, of calls, and of reads and writes of more than one byte
+//   REFUSE_THREAD=K   the K-th thread is not made
+//   COUNT_TO=FILE     at the end FILE gets the number of growths, of calls, of reads and writes of more than one byte, and of threads
 #define _GNU_SOURCE
 #include <dlfcn.h>
 #include <errno.h>
 #include <fcntl.h>
+#include <pthread.h>
 #include <stdarg.h>
 #include <stdio.h>
 #include <stdlib.h>
@@ -17,8 +19,9 @@
 
 static void *(*next_malloc)(size_t);
 static void *(*next_realloc)(void *, size_t);
-static unsigned long growths, calls, moves;
-static unsigned long refused_growth, refused_call, short_call;
+static int (*next_pthread_create)(pthread_t *, const pthread_attr_t *, void *(*)(void *), void *);
+static unsigned long growths, calls, moves, threads;
+static unsigned long refused_growth, refused_call, short_call, refused_thread;
 static int short_each, counting;
 // What is asked for while the C library is being searched comes from here, and is never given back.
 static char first_room[65536];
@@ -32,23 +35,28 @@ static unsigned long number_of(const char *name) {
 __attribute__((constructor)) static void begin(void) {
   if (!next_malloc) next_malloc = dlsym(RTLD_NEXT, "malloc");
   if (!next_realloc) next_realloc = dlsym(RTLD_NEXT, "realloc");
+  if (!next_pthread_create) next_pthread_create = dlsym(RTLD_NEXT, "pthread_create");
   refused_growth = number_of("REFUSE_GROWTH");
+  refused_thread = number_of("REFUSE_THREAD");
   refused_call = number_of("REFUSE_CALL");
   short_call = number_of("SHORT_CALL");
   short_each = number_of("SHORT_EACH") != 0;
   counting = 1;
 }
 
-__attribute__((destructor)) static void end(void) {
+// The program ends by _exit, so the counts are written there.
+void _exit(int status) {
   const char *file = getenv("COUNT_TO");
   char text[96];
-  if (!file) return;
-  counting = 0;
-  int length = snprintf(text, sizeof text, "%lu %lu %lu\n", growths, calls, moves);
-  int descriptor = syscall(SYS_open, file, O_WRONLY | O_CREAT | O_TRUNC, 0644);
-  if (descriptor < 0) return;
-  if (syscall(SYS_write, descriptor, text, length) < 0) {}
-  syscall(SYS_close, descriptor);
+  if (file) {
+    int length = snprintf(text, sizeof text, "%lu %lu %lu %lu\n", growths, calls, moves, threads);
+    int descriptor = syscall(SYS_open, file, O_WRONLY | O_CREAT | O_TRUNC, 0644);
+    if (descriptor >= 0) {
+      if (syscall(SYS_write, descriptor, text, length) < 0) {}
+      syscall(SYS_close, descriptor);
+    }
+  }
+  for (;;) syscall(SYS_exit_group, status);
 }
 
 static int growth_is_refused(void) {
@@ -107,4 +115,11 @@ ssize_t write(int descriptor, const void *bytes, size_t size) {
   unsigned long number = next_call();
   if (call_is_refused(number)) { errno = EIO; return -1; }
   return syscall(SYS_write, descriptor, bytes, moved(number, size));
+}
+
+ssize_t __write(int descriptor, const void *bytes, size_t size) { return write(descriptor, bytes, size); }
+
+int pthread_create(pthread_t *thread, const pthread_attr_t *attributes, void *(*work)(void *), void *given) {
+  if (__sync_add_and_fetch(&threads, 1) == refused_thread) return EAGAIN;
+  return next_pthread_create(thread, attributes, work, given);
 }

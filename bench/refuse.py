@@ -30,7 +30,7 @@ def run(**refusals):
 
 
 def counted():
-    """The numbers of growths, of calls, and of reads and writes of several bytes, of a run in which nothing is refused."""
+    """A run in which nothing is refused, and its numbers of growths, of calls, of reads and writes of several bytes, of threads."""
     path = os.path.join(FOLDER, "counts")
     whole = run(COUNT_TO=path)
     with open(path) as file:
@@ -86,6 +86,7 @@ def main():
     wrong = tried("growth", "REFUSE_GROWTH", COUNTS[0])
     wrong += tried("call that fails", "REFUSE_CALL", COUNTS[1])
     wrong += tried("call that moves one byte", "SHORT_CALL", COUNTS[1])
+    wrong += tried("thread", "REFUSE_THREAD", COUNTS[3])
     each = run(SHORT_EACH=1)
     same = each == WHOLE
     print(f"| {NAME} | one byte each time | {COUNTS[2]} | 1 | {int(same)} | 0 | 0 | 0 | 0, 0, 0 | {int(not same)} |", flush=True)

@@ -1,6 +1,6 @@
 #!/usr/bin/env bash
 # Refuses the built program one thing after another, by number, over small data: each growth of memory, each call of open, statx,
-# lseek, read and write, and it lets each read and write move one byte. Prints a table of how the runs ended; the status is 1 where
+# lseek, read and write, and each thread; it lets each read and write move one byte. Prints a table of how the runs ended; the status is 1 where
 # one ended as none may. Each STEP-th number is tried, 1 where STEP is not given. docs/REFUSALS.md has what was measured.
 set -eu
 root=$(cd "$(dirname "$(readlink -f "${BASH_SOURCE[0]}")")/.." && pwd)
