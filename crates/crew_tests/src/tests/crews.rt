@@ -1,16 +1,20 @@
 //! Phases of 3 reports by 8 candidates by crews of 1 to 64 workers, in tiles of all sizes, under drills and a hold.
 //! What is swept follows from the drill. A phase leaves the nodes that it made in its cache.
 
+ghost use Rattle.phase_workers.specs.Seen.{ArePasses};
+
 use crate::{Cut, Trial, plan_of};
 use definitions::Side;
-use eval_cache::EvalCache;
+use eval_cache::{CachePass, EvalCache};
 use field64::Fe;
 use gates::{DrillGate, Hold, HoldGate};
+use idpf_eval::Node;
 use phase_state::Kind;
 use phase_workers::{Crew, Phase, run_phase};
 use prefix_bits::Prefix;
 use shelf_io::OpenGate;
 use std::alloc::AllocError;
+use std::sync::Wait;
 
 #[test]
 fn drills_and_workers(rt: HostRuntime) -> Result<(), AllocError> {
@@ -91,6 +95,23 @@ fn two_workers_meet(rt: HostRuntime) -> Result<(), AllocError> {
     Ok(())
 }
 
+// What a cache has of report 0 at two prefixes, looked up with the last of its passes.
+fn found_with<'s, R: Wait>(
+    rt: &R,
+    cache: &EvalCache<'s>,
+    passes: Vec<CachePass<'s>>,
+    prefixes: &[Prefix; 2],
+) -> [Option<Node>; 2]
+    requires { ArePasses cache.now.locks passes.items }
+{
+    let mut passes = passes;
+    let mut into = [None, None];
+    if let Some(pass) = passes.pop() {
+        cache.gather(rt, pass, 0, prefixes, &mut into);
+    }
+    into
+}
+
 #[test]
 fn cache_is_used(rt: HostRuntime) -> Result<(), AllocError> {
     let trial = Trial::at_the_first_level(rt.alloc())?;
@@ -103,18 +124,12 @@ fn cache_is_used(rt: HostRuntime) -> Result<(), AllocError> {
     let Phase {
         done,
         finished,
-        mut passes,
+        passes,
     } = run_phase(&rt, crew, &OpenGate);
     assert_eq!(rt; done.tiles, 1);
     assert!(rt; trial.has_sums(Side::Zero, finished.sums()));
-    let Some(pass) = passes.pop() else {
-        unreachable!()
-    };
     let (first, second) = (Prefix::empty().child(false), Prefix::empty().child(true));
-    let prefixes = [first, second];
-    let mut into = [None, None];
-    cache.gather(&rt, pass, 0, &prefixes, &mut into);
-    let (found0, found1) = (into[0], into[1]);
+    let [found0, found1] = found_with(&rt, &cache, passes, &[first, second]);
     assert!(rt; found0.is_some() && found1.is_some());
     assert!(rt; found0 == trial.first_node(Side::Zero, &first));
     assert!(rt; found1 == trial.first_node(Side::Zero, &second));
