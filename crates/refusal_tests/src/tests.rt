@@ -41,6 +41,14 @@ const RUN: Whole = Whole {
     err: "sealed 3 passed 3 levels 16\n",
 };
 
+// The same files at a threshold that no prefix has, so that the walk ends at its first level, after six messages.
+const SHORT_RUN: Whole = Whole {
+    row: "run --threshold 4 f0 f1",
+    status: 0,
+    out: "",
+    err: "sealed 3 passed 3 levels 1\n",
+};
+
 const FIND: Whole = Whole {
     row: "find --width 2 --threshold 2 s",
     status: 0,
@@ -53,6 +61,13 @@ const MAKE: Whole = Whole {
     status: 0,
     out: "heavy 2 sum 3\n",
     err: "sealed 3 passed 3 levels 8\n",
+};
+
+const SHORT_MAKE: Whole = Whole {
+    row: "make --reports 3 --width 1 --threshold 4",
+    status: 0,
+    out: "heavy 0 sum 0\n",
+    err: "sealed 3 passed 3 levels 1\n",
 };
 
 const CAPPED: Whole = Whole {

@@ -2,7 +2,7 @@
 //! The status and its line tell whose call it was; out, the files and the messages are fronts of the whole.
 
 use super::trial::{Ended, GIVEN, NOTHING_FAILS, Object, Trial, tried};
-use super::{CAPPED, EVAL, FIND, GEN, MAKE, RUN, Whole, filled, is_whole};
+use super::{CAPPED, EVAL, FIND, GEN, RUN, SHORT_MAKE, SHORT_RUN, Whole, filled, is_whole};
 use shelf_io::{Call, MemoryLink, MemoryShelf};
 use std::alloc::{AllocError, Global};
 use std::sync::Wait;
@@ -25,36 +25,38 @@ impl Calls {
     }
 }
 
-// A command, whose calls of which kind fail, and how many there are. Sinks take one byte a write here.
+// A command, whose calls of which kind fail, and how many there are. Sinks take few bytes a write here.
 struct Case(Whole, Object, Call, Calls);
+
+const BITE: usize = 7;
 
 // Of `eval` and `gen`, of `run`, of `find` and of `make`.
 const CASES: [Case; 25] = [
     Case(EVAL, Object::Shelf, Call::Length, Calls::Exactly(1)),
     Case(EVAL, Object::Shelf, Call::Read, Calls::AtLeast(2)),
-    Case(EVAL, Object::Out, Call::Write, Calls::Exactly(73)),
-    Case(EVAL, Object::Err, Call::Write, Calls::Exactly(24)),
+    Case(EVAL, Object::Out, Call::Write, Calls::Exactly(11)),
+    Case(EVAL, Object::Err, Call::Write, Calls::Exactly(4)),
     Case(GEN, Object::Shelf, Call::Length, Calls::Exactly(1)),
     Case(GEN, Object::Shelf, Call::Read, Calls::AtLeast(1)),
     Case(GEN, Object::Shelf, Call::Begin, Calls::Exactly(2)),
     Case(GEN, Object::Shelf, Call::Append, Calls::AtLeast(2)),
     Case(RUN, Object::Shelf, Call::Length, Calls::Exactly(2)),
     Case(RUN, Object::Shelf, Call::Read, Calls::AtLeast(2)),
-    Case(RUN, Object::Link, Call::Send, Calls::Exactly(96)),
-    Case(RUN, Object::Link, Call::Receive, Calls::AtLeast(96)),
-    Case(RUN, Object::Out, Call::Write, Calls::Exactly(5)),
-    Case(RUN, Object::Err, Call::Write, Calls::Exactly(28)),
+    Case(SHORT_RUN, Object::Link, Call::Send, Calls::Exactly(6)),
+    Case(SHORT_RUN, Object::Link, Call::Receive, Calls::AtLeast(6)),
+    Case(RUN, Object::Out, Call::Write, Calls::Exactly(1)),
+    Case(RUN, Object::Err, Call::Write, Calls::Exactly(4)),
     Case(FIND, Object::Shelf, Call::Length, Calls::Exactly(1)),
     Case(FIND, Object::Shelf, Call::Read, Calls::AtLeast(1)),
     Case(FIND, Object::Link, Call::Send, Calls::Exactly(96)),
     Case(FIND, Object::Link, Call::Receive, Calls::AtLeast(96)),
-    Case(FIND, Object::Out, Call::Write, Calls::Exactly(5)),
-    Case(FIND, Object::Err, Call::Write, Calls::Exactly(28)),
-    Case(MAKE, Object::Link, Call::Send, Calls::Exactly(48)),
-    Case(MAKE, Object::Link, Call::Receive, Calls::AtLeast(48)),
-    Case(MAKE, Object::Out, Call::Write, Calls::Exactly(14)),
-    Case(MAKE, Object::Err, Call::Write, Calls::Exactly(27)),
-    Case(CAPPED, Object::Err, Call::Write, Calls::Exactly(30)),
+    Case(FIND, Object::Out, Call::Write, Calls::Exactly(1)),
+    Case(FIND, Object::Err, Call::Write, Calls::Exactly(4)),
+    Case(SHORT_MAKE, Object::Link, Call::Send, Calls::Exactly(6)),
+    Case(SHORT_MAKE, Object::Link, Call::Receive, Calls::AtLeast(6)),
+    Case(SHORT_MAKE, Object::Out, Call::Write, Calls::Exactly(2)),
+    Case(SHORT_MAKE, Object::Err, Call::Write, Calls::Exactly(4)),
+    Case(CAPPED, Object::Err, Call::Write, Calls::Exactly(5)),
 ];
 
 // How many messages were sent where they are a front of those of a whole run.
@@ -101,9 +103,9 @@ fn is_front(bytes: &[u8], text: &str, count: u64, line: &str) -> bool {
     bytes.starts_with(front) && &bytes[front.len()..] == line.as_bytes()
 }
 
-// Whether status, out and err are those of a refusal. A sink has taken one byte by each write before.
+// Whether status, out and err are those of a refusal. A sink has taken a bite by each write before.
 fn has_texts(whole: Whole, trial: Trial, ended: &Ended) -> bool {
-    let taken = trial.number.saturating_sub(1);
+    let taken = trial.number.saturating_sub(1).saturating_mul(BITE as u64);
     let (out, err) = (ended.out.bytes(), ended.err.bytes());
     match trial.object {
         Object::Shelf => ended.status == 6
@@ -172,7 +174,7 @@ fn refused_in_turn<R: Threads + Wait + Sync>(
             object: *object,
             call: *call,
             number: refused + 1,
-            most: 1,
+            most: BITE,
         };
         let ended = tried(rt, alloc, files, command.row, trial)?;
         if is_whole(*command, &ended) {
