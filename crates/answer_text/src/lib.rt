@@ -5,8 +5,6 @@
 mod answers;
 mod lines;
 mod refused;
-#[cfg(test)]
-mod tests;
 
 pub use crate::answers::answer_text;
 pub use crate::lines::sealed_line;

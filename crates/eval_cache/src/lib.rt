@@ -7,10 +7,6 @@ mod pass;
 mod shard;
 mod shared;
 mod state;
-#[cfg(test)]
-mod tests;
-#[cfg(test)]
-mod thread_tests;
 mod through;
 
 pub use key::Key;

@@ -4,8 +4,6 @@
 
 mod elements;
 mod products;
-#[cfg(test)]
-mod tests;
 
 pub use crate::elements::Fe;
 pub use crate::products::dot;

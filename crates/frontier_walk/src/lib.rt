@@ -6,8 +6,6 @@ mod frontiers;
 mod heavies;
 mod outcomes;
 mod pruning;
-#[cfg(test)]
-mod tests;
 
 pub use crate::frontiers::Frontier;
 pub use crate::heavies::Heavy;

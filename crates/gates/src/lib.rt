@@ -5,8 +5,6 @@
 mod drill_gate;
 mod hold_gate;
 mod tally_gate;
-#[cfg(test)]
-mod tests;
 
 pub use crate::drill_gate::DrillGate;
 pub use crate::hold_gate::{Hold, HoldGate};

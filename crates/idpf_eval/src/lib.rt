@@ -5,8 +5,6 @@
 mod evaluation;
 mod nodes;
 mod shares;
-#[cfg(test)]
-mod tests;
 
 pub use crate::evaluation::{eval, eval_uncounted, root, step};
 pub use crate::nodes::Node;

@@ -5,8 +5,6 @@
 mod coins;
 mod pairs;
 mod path;
-#[cfg(test)]
-mod tests;
 
 pub use crate::coins::{ClientCoins, LevelCoins, coins_of};
 pub use crate::pairs::{gen_, pair_of};

@@ -5,8 +5,6 @@
 mod entries;
 mod firsts;
 mod intakes;
-#[cfg(test)]
-mod tests;
 
 pub use crate::entries::Entry;
 pub use crate::intakes::IntakeState;

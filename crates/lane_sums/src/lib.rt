@@ -3,8 +3,6 @@
 #![tactic(auto)]
 
 mod places;
-#[cfg(test)]
-mod tests;
 mod total;
 
 pub use places::add_into;

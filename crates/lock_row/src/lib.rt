@@ -7,8 +7,6 @@ mod passes;
 mod row;
 mod row_turn;
 mod rows;
-#[cfg(test)]
-mod tests;
 
 pub use laws::{a_take_and_a_give_are_one_turn, closing_in_order_closes_each_place};
 pub use passes::RowPass;

@@ -14,6 +14,3 @@ pub use crate::biting_sink::BitingSink;
 pub use crate::hollow_shelf::HollowShelf;
 pub use crate::twist::Twist;
 pub use crate::twist_link::TwistLink;
-
-#[cfg(test)]
-mod tests;

@@ -4,8 +4,6 @@
 
 mod pair_settings;
 mod records;
-#[cfg(test)]
-mod tests;
 mod writing;
 
 pub use crate::pair_settings::PairSettings;

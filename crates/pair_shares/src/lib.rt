@@ -4,7 +4,5 @@
 
 pub mod laws;
 mod lists;
-#[cfg(test)]
-mod tests;
 
 pub use crate::lists::pair_lists;

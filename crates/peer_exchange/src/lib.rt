@@ -12,8 +12,6 @@ mod receiving;
 mod sends;
 mod spelling;
 mod takes;
-#[cfg(test)]
-mod tests;
 mod triples;
 
 pub use crate::exchange_error::ExchangeError;

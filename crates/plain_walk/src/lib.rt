@@ -7,8 +7,6 @@ mod checking;
 mod levels;
 mod live;
 mod reports;
-#[cfg(test)]
-mod tests;
 mod walking;
 
 pub use crate::answers::Answer;

@@ -5,8 +5,6 @@
 pub mod laws;
 mod prefix;
 mod report_id;
-#[cfg(test)]
-mod tests;
 
 pub use crate::prefix::Prefix;
 pub use crate::report_id::ReportId;

@@ -7,8 +7,6 @@ mod batching;
 mod content;
 mod contents;
 pub mod laws;
-#[cfg(test)]
-mod tests;
 
 pub use crate::batch::Batch;
 pub use crate::batching::batch_of;

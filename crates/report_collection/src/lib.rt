@@ -6,8 +6,6 @@ mod collect;
 mod dealing;
 pub mod laws;
 mod side_collection;
-#[cfg(test)]
-mod tests;
 mod uploader;
 
 pub use crate::collect::Collect;

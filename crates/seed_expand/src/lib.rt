@@ -7,8 +7,6 @@ mod expansion;
 mod seeds;
 mod steps;
 mod stream_reader;
-#[cfg(test)]
-mod tests;
 
 pub use crate::expansion::{convert, extend, number_at, part, xor};
 pub use crate::seeds::{Children, Converted, Seed};

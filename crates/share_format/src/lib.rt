@@ -13,8 +13,6 @@ mod record_reader;
 mod record_reading;
 mod record_writing;
 mod records;
-#[cfg(test)]
-mod tests;
 
 pub use crate::file_error::FileError;
 pub use crate::headers::{HEADER_LEN, Header};

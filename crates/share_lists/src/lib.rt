@@ -4,8 +4,6 @@
 
 mod reading;
 mod share_part;
-#[cfg(test)]
-mod tests;
 
 pub use crate::reading::next_list;
 pub use crate::share_part::SharePart;

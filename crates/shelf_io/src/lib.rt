@@ -42,6 +42,3 @@ pub use crate::shelf::Shelf;
 pub use crate::sink::Sink;
 pub use crate::std_sink::StdSink;
 pub use crate::writing::{write_all, write_file};
-
-#[cfg(test)]
-mod tests;

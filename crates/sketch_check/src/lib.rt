@@ -4,8 +4,6 @@
 
 mod coins;
 mod sums;
-#[cfg(test)]
-mod tests;
 
 pub use crate::coins::CoinKey;
 pub use crate::sums::{Sums, Triple, correlation, masked, open, passes, sigma};

@@ -6,8 +6,6 @@ mod cuts;
 mod lines_error;
 mod reading;
 mod showing;
-#[cfg(test)]
-mod tests;
 
 pub use crate::lines_error::LinesError;
 pub use crate::reading::{MOST_WIDTH, read_lines};

@@ -14,6 +14,3 @@ pub use drawers::Drawer;
 pub use rule::rule_of_claims;
 pub use tile_plan::TilePlan;
 pub use tiles::Tile;
-
-#[cfg(test)]
-mod tests;

@@ -3,7 +3,5 @@
 #![tactic(auto)]
 
 mod making;
-#[cfg(test)]
-mod tests;
 
 pub use crate::making::workload;

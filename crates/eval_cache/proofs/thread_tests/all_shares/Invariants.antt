@@ -1,5 +1,0 @@
-use Rattle.std.proofs.Common.{◌≡◌, ◌≤◌, vec_len, vec_capacity}
-use Rattle.eval_cache.proofs.thread_tests.all_shares.Given as goal
-
-abbrev pub invariant-loop-root : goal.invariant-loop-root
-invariant-loop-root l = (vec_len l.shares ≡ l.root) × (32 ≤ vec_capacity l.shares)

@@ -1,5 +1,0 @@
-use Rattle.std.proofs.Common.{◌≡◌}
-use Rattle.turn_lock.proofs.tests.visit_often.Given as goal
-
-abbrev pub invariant-loop-step : goal.invariant-loop-step
-invariant-loop-step g l = (l.pass.lock ≡ l.turn.lock) × (l.turn ≡ l.fn.job.turn.now)
