@@ -3,5 +3,4 @@
 
 mod batches;
 mod collecting;
-mod intakes;
 mod states;

@@ -7,6 +7,8 @@ mod intake;
 pub mod laws;
 mod passes;
 mod sealing;
+#[cfg(test)]
+mod tests;
 
 pub use crate::held::HeldIntake;
 pub use crate::intake::Intake;

@@ -4,13 +4,13 @@
 ghost use Rattle.std.specs.Prelude.{◌≡◌, ◌<◌, ◌≤◌, IfOk, length, vec_len};
 ghost use Rattle.std.specs.List.{AllByRecursion};
 
+use crate::intake::enter;
+use crate::{HeldIntake, Intake, Reply, UploadPass, seal};
 use definitions::{Sequence, Side};
 use field64::Fe;
 use idpf_eval::{LevelWord, Share};
 use intake_state::IntakeState;
 use prefix_bits::ReportId;
-use report_intake::intake::enter;
-use report_intake::{HeldIntake, Intake, Reply, UploadPass, seal};
 use seed_expand::Seed;
 use std::alloc::{AllocError, Global};
 use std::sync::Wait;

@@ -1,5 +1,5 @@
 use Rattle.std.proofs.Common.{◌≡◌}
-use Rattle.intake_tests.proofs.tests.intakes.uploads_of.Given as goal
+use Rattle.report_intake.proofs.tests.uploads_of.Given as goal
 
 abbrev pub invariant-loop-id : goal.invariant-loop-id
 invariant-loop-id g l = (l.first.lock ≡ l.intake-inside.turn.lock) × (l.second.lock ≡ l.intake-inside.turn.lock)
