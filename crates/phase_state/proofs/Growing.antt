@@ -6,6 +6,7 @@ use Rattle.std.proofs.lemmas.List.{length-map}
 use Rattle.definitions.specs.Field.{modulus, add, total_by}
 use Rattle.definitions.specs.Evaluation.{Node}
 use Rattle.definitions.specs.Sketch.{Sums, sums_added, squared, partial_sums_from}
+use Rattle.definitions.proofs.FieldLaws.{total_by-append}
 use Rattle.walk_definitions.specs.Heard.{paired}
 use Rattle.core_definitions.specs.Tiles.{TilePlan, numbered, no_sums, tile, has_report, has_candidate, part_by, sums_within, sums_at, tile_sums, sums_of_tiles, total_at, tile_totals, totals_of_tiles}
 use Rattle.core_definitions.proofs.Sums.{same_sums, numbered-total}
@@ -47,6 +48,18 @@ module _ {R C : Type 0} (plan : TilePlan) (coins : R → ℕ → ℕ) (nodes : R
       (sym (total_push (λ k. (sums_at plan coins nodes live candidates r k).y) ks k))
       (sym (total_push (λ k. (sums_at plan coins nodes live candidates r k).z) ks k))) (numbered 0 live)
 
+  -- the sums of two lists of tiles, place by place
+  pub sums_joined : (ks js : List ℕ)
+      → paired sums_added (sums_of_tiles plan coins nodes live candidates ks) (sums_of_tiles plan coins nodes live candidates js)
+      ≡ sums_of_tiles plan coins nodes live candidates (ks ++ js)
+  unfolding sums_of_tiles
+  sums_joined ks js =
+      paired-map sums_added _ _ (numbered 0 live)
+      ∙ map-same _ _ (λ r. same_sums _ _ _ _ _ _
+      (sym (total_by-append (λ k. (sums_at plan coins nodes live candidates r k).x) ks js))
+      (sym (total_by-append (λ k. (sums_at plan coins nodes live candidates r k).y) ks js))
+      (sym (total_by-append (λ k. (sums_at plan coins nodes live candidates r k).z) ks js))) (numbered 0 live)
+
   pub sums_length : (ks : List ℕ) → length (sums_of_tiles plan coins nodes live candidates ks) ≡ length live
   unfolding sums_of_tiles
   sums_length ks = length-map (numbered 0 live) _ ∙ length-numbered 0 live
@@ -83,6 +96,15 @@ module _ {R C : Type 0} (plan : TilePlan) (nodes : R → C → Node) (live : Lis
   totals_more ks k =
       paired-map add _ _ (numbered 0 candidates)
       ∙ map-same _ _ (λ q. sym (total_push (total_at plan nodes live candidates q) ks k)) (numbered 0 candidates)
+
+  -- the totals of two lists of tiles, place by place
+  pub totals_joined : (ks js : List ℕ)
+      → paired add (totals_of_tiles plan nodes live candidates ks) (totals_of_tiles plan nodes live candidates js)
+      ≡ totals_of_tiles plan nodes live candidates (ks ++ js)
+  unfolding totals_of_tiles
+  totals_joined ks js =
+      paired-map add _ _ (numbered 0 candidates)
+      ∙ map-same _ _ (λ q. sym (total_by-append (total_at plan nodes live candidates q) ks js)) (numbered 0 candidates)
 
   pub totals_length : (ks : List ℕ) → length (totals_of_tiles plan nodes live candidates ks) ≡ length candidates
   unfolding totals_of_tiles

@@ -4,4 +4,5 @@ pub mod Cutting
 mod Growing
 pub mod Marks
 mod Posts
+mod Joins
 pub mod Filled

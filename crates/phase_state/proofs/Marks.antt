@@ -36,6 +36,10 @@ times_push k n xs = omega (arith, sum_by-append (λ (y : ℕ). cond (y == k) 1 0
 pub posts_push : (k : ℕ) (log : List Posting) (e : Posting) → posts k (log ++ e ∷ []) ≡ posts k log + cond (e.tile == k) 1 0
 posts_push k log e = ap (times k) (map_push (λ e. e.tile) log e) ∙ times_push k e.tile (tiles_in log)
 
+pub posts_append : (k : ℕ) (xs ys : List Posting) → posts k (xs ++ ys) ≡ posts k xs + posts k ys
+posts_append k [] ys = omega arith
+posts_append k (x ∷ xs) ys = omega (arith, sum_by-cons (λ (y : ℕ). cond (y == k) 1 0) x.tile (tiles_in xs), sum_by-cons (λ (y : ℕ). cond (y == k) 1 0) x.tile (tiles_in (xs ++ ys)), posts_append k xs ys)
+
 pub mark_none : (n k : ℕ) → ◌≡◌ {A = ℕ} 0 (cond (slice_index_or (replicate n false) k false) 1 0)
 mark_none zero k = refl
 mark_none (suc n) zero = refl

@@ -1,5 +1,5 @@
 -- Logs of posted tiles.
-use Rattle.std.specs.Prelude.{◌≡◌, ℕ, ◌≤◌, List, [], ◌∷◌, ◌++◌, map}
+use Rattle.std.specs.Prelude.{◌≡◌, ℕ, ◌<◌, ◌≤◌, List, [], ◌∷◌, ◌++◌, map}
 use Rattle.core_definitions.specs.Phase.{Posting}
 use Rattle.phase_state.specs.declared.posting.Posted.{Posted}
 use Rattle.phase_state.specs.declared.posting.Posted.TheVariants.{Added, Repeat}
@@ -28,3 +28,7 @@ EachAtMostOnce tiles log = (k : ℕ) → posts k log ≤ once_below k tiles
 -- each tile stands once in the log, and no other number does
 abbrev pub EachOnce : ℕ → List Posting → Type 0
 EachOnce tiles log = (k : ℕ) → posts k log ≡ once_below k tiles
+
+-- no tile stands in both logs
+abbrev pub AreApart : List Posting → List Posting → Type 0
+AreApart log other = (k : ℕ) → 0 < posts k log → posts k other ≡ 0

@@ -2,33 +2,23 @@
 //! Only the tile's own range changes.
 
 ghost use Rattle.std.specs.Prelude.{◌≡◌, ◌≤◌, length, slice_range};
-ghost use Rattle.definitions.specs.Field.{add};
 ghost use Rattle.definitions.specs.Sketch.{sums_added};
 ghost use Rattle.walk_definitions.specs.Heard.{paired};
 ghost use Rattle.phase_state.specs.Loops.{FitsTile, sums_with, totals_with};
 
 use crate::part::Part;
 use field64::Fe;
+use lane_sums::add_into;
 use sketch_check::{Sums, open};
 use tile_claims::Tile;
 
 /// Adds sums place by place.
-fn add_sums(into: &mut [Sums], part: &[Sums])
+pub fn add_sums(into: &mut [Sums], part: &[Sums])
     requires same { length into.old ≡ length part.now }
     ensures { into.new ≡ paired sums_added into.old part.now }
 {
     for place in 0..into.len() {
         into[place] = open(&into[place], &part[place]);
-    }
-}
-
-/// Adds totals place by place.
-fn add_totals(into: &mut [Fe], part: &[Fe])
-    requires same { length into.old ≡ length part.now }
-    ensures { into.new ≡ paired add into.old part.now }
-{
-    for place in 0..into.len() {
-        into[place] = into[place].add(part[place]);
     }
 }
 
@@ -40,6 +30,6 @@ pub fn add_part(sums: &mut [Sums], totals: &mut [Fe], tile: &Tile, part: &Part<'
 {
     match part {
         Part::Sketch(more) => add_sums(&mut sums[tile.r0 as usize..tile.r1 as usize], more),
-        Part::Totals(more) => add_totals(&mut totals[tile.c0 as usize..tile.c1 as usize], more),
+        Part::Totals(more) => add_into(&mut totals[tile.c0 as usize..tile.c1 as usize], more),
     }
 }

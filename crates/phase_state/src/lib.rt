@@ -5,6 +5,7 @@
 mod adding;
 mod filling;
 mod kind;
+mod marking;
 mod part;
 mod phase_plan;
 mod posting;

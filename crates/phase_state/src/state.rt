@@ -1,18 +1,20 @@
 //! The state of a phase: which tiles were posted, by whom, and the sums of them.
 //! However often a tile is posted, it is added once.
 
-ghost use Rattle.std.specs.Prelude.{◌≡◌, ◌↔◌, ◌<◌, [], IsTrue, IfOk, false, replicate};
+ghost use Rattle.std.specs.Prelude.{◌≡◌, ◌↔◌, ◌<◌, [], ◌++◌, IsTrue, IfOk, false, replicate};
 ghost use Rattle.tile_claims.specs.Plans.{tiles_of};
 ghost use Rattle.phase_state.specs.Sums.{IsPhasePlan, sums_of, totals_of, plain_sums, plain_totals};
 ghost use Rattle.phase_state.specs.declared.kind.Kind.TheVariants.{Sketch, Totals};
-ghost use Rattle.phase_state.specs.Logs.{tiles_in, posts, IsPosted, EachAtMostOnce, EachOnce};
+ghost use Rattle.phase_state.specs.Logs.{tiles_in, posts, IsPosted, AreApart, EachAtMostOnce, EachOnce};
 ghost use Rattle.phase_state.specs.Phases.{IsPart};
 
-use crate::adding::add_part;
+use crate::adding::{add_part, add_sums};
+use crate::marking::mark_all;
 use crate::part::Part;
 use crate::phase_plan::PhasePlan;
 use crate::posting::{Posted, Posting};
 use field64::Fe;
+use lane_sums::add_into;
 use sketch_check::Sums;
 use std::alloc::{AllocError, Global};
 use std::marker::Model;
@@ -77,6 +79,29 @@ impl<'a> PhaseState<'a> {
         self.marks[tile as usize] = true;
         self.log.push_reserved(Posting { number, tile });
         Posted::Added
+    }
+
+    /// Joins another state of the same plan, of whose tiles none is posted here: its entries follow those of this log, and its
+    /// sums are added. It takes no memory, in the time of the plan's sums.
+    pub fn join(&mut self, other: PhaseState<'a>)
+        requires plan { other.plan ≡ self.old.plan }
+        requires apart { AreApart self.old.log other.log }
+        ensures plan { self.new.plan ≡ self.old.plan }
+        ensures log { self.new.log ≡ self.old.log ++ other.entry.log }
+    {
+        let PhaseState {
+            plan: _,
+            log,
+            marks,
+            sums,
+            totals,
+        } = other;
+        add_sums(self.sums.as_mut_slice(), sums.as_slice());
+        add_into(self.totals.as_mut_slice(), totals.as_slice());
+        mark_all(self.marks.as_mut_slice(), marks.as_slice());
+        let Ok(()) = self.log.extend_from_slice(log.as_slice()) else {
+            unreachable!()
+        };
     }
 
     /// Whether the tile is posted.
