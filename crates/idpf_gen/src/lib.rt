@@ -7,4 +7,5 @@ mod pairs;
 mod path;
 
 pub use crate::coins::{ClientCoins, LevelCoins, coins_of};
-pub use crate::pairs::{gen_, pair_of};
+pub use crate::pairs::{gen_, joined, pair_of, side_words};
+pub use crate::path::{Path, kept_seeds, value_level};

@@ -2,6 +2,7 @@
 //! That its values add up and that it passes the check are clauses of each call here.
 
 ghost use Rattle.std.specs.Prelude.{◌≡◌, ◌+◌, ◌%◌, ◌<◌, ◌≤◌, IfOk, length};
+ghost use Rattle.definitions.specs.Field.{sub};
 ghost use Rattle.definitions.specs.Sketch.{triples_added, correction_a, correction_b};
 ghost use Rattle.definitions.specs.Generation.{share0, share1, client_coins, words0, words1, path_after, start, joint_correlation};
 ghost use Rattle.generation_laws.specs.Points.{coins_at};
@@ -9,7 +10,7 @@ ghost use Rattle.idpf_gen.specs.LevelWords.{word0, word1};
 ghost use Rattle.definitions.specs.ReportIds.{report_id};
 ghost use Rattle.idpf_gen.specs.Pairs.{AddUpToThePointOf, PassesEachLevel};
 
-use crate::coins::{ClientCoins, coins_of};
+use crate::coins::{ClientCoins, LevelCoins, coins_of};
 use crate::path::{Path, level_of};
 use definitions::Sequence;
 use field64::Fe;
@@ -22,7 +23,7 @@ use std::marker::Brand;
 use std::sync::ledger::{Blank, Ledger};
 
 /// Both sides' parts of the correlation added.
-fn joined(zero: &Triple, one: &Triple) -> Triple
+pub fn joined(zero: &Triple, one: &Triple) -> Triple
     ensures value { result ≡ triples_added zero.now one.now }
 {
     Triple {
@@ -51,6 +52,21 @@ fn number_b(joint: &Triple, k: Fe) -> Fe
         .add(joint.c)
 }
 
+/// Both sides' words of a level, side 0's first, from the corrections that they share: each with its numbers of the check. The
+/// correlation is that of both sides.
+pub fn side_words(word: LevelWord, coins: LevelCoins, joint: &Triple) -> (LevelWord, LevelWord)
+    ensures zero { result.0 ≡ record word { a = coins.a0; b = coins.b0 } }
+    ensures one { result.1 ≡ record word { a = sub (correction_a joint.now coins.k) coins.a0; b = sub (correction_b joint.now coins.k) coins.b0 } }
+{
+    let mut zero = word;
+    zero.a = coins.a0;
+    zero.b = coins.b0;
+    let mut one = word;
+    one.a = number_a(joint, coins.k).sub(coins.a0);
+    one.b = number_b(joint, coins.k).sub(coins.b0);
+    (zero, one)
+}
+
 /// Both sides' words of a level, and the path after the string's bit.
 fn words_of_level<L: Ledger>(
     path: &Path,
@@ -70,12 +86,7 @@ fn words_of_level<L: Ledger>(
         &correlation(&coins.corr0, level),
         &correlation(&coins.corr1, level),
     );
-    let mut zero = word;
-    zero.a = of_level.a0;
-    zero.b = of_level.b0;
-    let mut one = word;
-    one.a = number_a(&joint, of_level.k).sub(of_level.a0);
-    one.b = number_b(&joint, of_level.k).sub(of_level.b0);
+    let (zero, one) = side_words(word, of_level, &joint);
     (zero, one, after)
 }
 

@@ -4,22 +4,27 @@
 ghost use Rattle.std.specs.Prelude.{◌≡◌, Bool, not, if◌then◌else◌};
 ghost use Rattle.definitions.specs.Evaluation.{kept_seed, kept_bit, correction_bit};
 ghost use Rattle.definitions.specs.Prefixes.{xor as bit_xor};
-ghost use Rattle.definitions.specs.Words.{seed_xor};
-ghost use Rattle.definitions.specs.Generation.{path_word, value_word, path_after, value_signed};
+ghost use Rattle.definitions.specs.Words.{seed_xor, extend, convert};
+ghost use Rattle.definitions.specs.Generation.{value_word, path_after, value_signed};
+ghost use Rattle.idpf_gen.specs.LevelWords.{kept_seed0, kept_seed1};
 
 use field64::Fe;
 use idpf_eval::LevelWord;
-use seed_expand::{Children, Seed, Steps, convert, extend, xor};
+use seed_expand::{Children, Converted, Seed, Steps, convert, extend, xor};
 use std::marker::Model;
 use std::sync::ledger::Ledger;
 
 /// Both sides' seeds and bits at a prefix of the string.
-#[derive(Clone, Copy)]
-pub(crate) struct Path {
-    pub(crate) seed0: Seed,
-    pub(crate) bit0: bool,
-    pub(crate) seed1: Seed,
-    pub(crate) bit1: bool,
+#[derive(Clone, Copy, Debug, PartialEq, Eq)]
+pub struct Path {
+    /// Side 0's seed.
+    pub seed0: Seed,
+    /// Side 0's bit.
+    pub bit0: bool,
+    /// Side 1's seed.
+    pub seed1: Seed,
+    /// Side 1's bit.
+    pub bit1: bool,
 }
 
 impl Model for Path {
@@ -55,21 +60,24 @@ fn word_of(from0: &Children, from1: &Children, bit: bool) -> LevelWord
     }
 }
 
-/// A side's kept child, corrected where its parent's bit is set.
-fn kept_child(from: &Children, word: &LevelWord, set: bool, bit: bool) -> (Seed, bool)
-    ensures seed { result.0 ≡ (if set then seed_xor (kept_seed from.now bit) word.now.seed else kept_seed from.now bit) }
-    ensures bit { result.1 ≡ (if set then bit_xor (kept_bit from.now bit) (correction_bit word.now bit) else kept_bit from.now bit) }
+/// The seed of a side's kept child, corrected where its parent's bit is set.
+fn kept_seed(from: &Children, word: &LevelWord, set: bool, bit: bool) -> Seed
+    ensures value { result ≡ (if set then seed_xor (kept_seed from.now bit) word.now.seed else kept_seed from.now bit) }
 {
-    let (seed, kept, correction) = if bit {
-        (from.right, from.bit_right, word.right)
+    let seed = if bit { from.right } else { from.left };
+    if set { xor(&seed, &word.seed) } else { seed }
+}
+
+/// The bit of a side's kept child, corrected where its parent's bit is set.
+fn kept_bit(from: &Children, word: &LevelWord, set: bool, bit: bool) -> bool
+    ensures value { result ≡ (if set then bit_xor (kept_bit from.now bit) (correction_bit word.now bit) else kept_bit from.now bit) }
+{
+    let (kept, correction) = if bit {
+        (from.bit_right, word.right)
     } else {
-        (from.left, from.bit_left, word.left)
+        (from.bit_left, word.left)
     };
-    if set {
-        (xor(&seed, &word.seed), kept ^ correction)
-    } else {
-        (seed, kept)
-    }
+    if set { kept ^ correction } else { kept }
 }
 
 /// An element with the sign of the value word.
@@ -79,24 +87,41 @@ fn value_signed(bit1: bool, x: Fe) -> Fe
     if bit1 { x.neg() } else { x }
 }
 
-/// The corrections of a level, without the numbers of the check, and the path after the string's bit.
+/// The corrected seeds of both sides' children along the string's bit, side 0's first, from the children of the seeds of the path.
+pub fn kept_seeds(path: &Path, bit: bool, from0: &Children, from1: &Children) -> (Seed, Seed)
+    requires from0 { from0.now ≡ extend path.now.seed0 }
+    requires from1 { from1.now ≡ extend path.now.seed1 }
+    ensures zero { result.0 ≡ kept_seed0 path.now bit }
+    ensures one { result.1 ≡ kept_seed1 path.now bit }
+{
+    let word = word_of(from0, from1, bit);
+    let seed0 = kept_seed(from0, &word, path.bit0, bit);
+    let seed1 = kept_seed(from1, &word, path.bit1, bit);
+    (seed0, seed1)
+}
+
+/// The corrections of a level, without the numbers of the check, and the path after the string's bit: from the children of the seeds
+/// of the path, and from what the corrected seeds are converted to. The level's data is `k`.
 #[tactic(auto, unfolding(definitions::specs::Generation::value_word, definitions::specs::Generation::path_after), using(crate::proofs::Reduced::reduced))]
-pub(crate) fn level_of<L: Ledger>(
+pub fn value_level(
     path: &Path,
     bit: bool,
     k: Fe,
-    steps: &mut Steps<L>,
+    from0: &Children,
+    from1: &Children,
+    to0: &Converted,
+    to1: &Converted,
 ) -> (LevelWord, Path)
+    requires from0 { from0.now ≡ extend path.now.seed0 }
+    requires from1 { from1.now ≡ extend path.now.seed1 }
+    requires to0 { to0.now ≡ convert (kept_seed0 path.now bit) }
+    requires to1 { to1.now ≡ convert (kept_seed1 path.now bit) }
     ensures word { result.0 ≡ value_word path.now bit k }
     ensures path { result.1 ≡ path_after path.now bit }
 {
-    let from0 = extend(&path.seed0, steps);
-    let from1 = extend(&path.seed1, steps);
-    let mut word = word_of(&from0, &from1, bit);
-    let (seed0, bit0) = kept_child(&from0, &word, path.bit0, bit);
-    let (seed1, bit1) = kept_child(&from1, &word, path.bit1, bit);
-    let to0 = convert(&seed0);
-    let to1 = convert(&seed1);
+    let mut word = word_of(from0, from1, bit);
+    let bit0 = kept_bit(from0, &word, path.bit0, bit);
+    let bit1 = kept_bit(from1, &word, path.bit1, bit);
     let u = Fe::one()
         .sub(Fe::from_u128(to0.u))
         .add(Fe::from_u128(to1.u));
@@ -110,4 +135,28 @@ pub(crate) fn level_of<L: Ledger>(
         bit1,
     };
     (word, after)
+}
+
+/// The corrections of a level, without the numbers of the check, and the path after the string's bit.
+pub(crate) fn level_of<L: Ledger>(
+    path: &Path,
+    bit: bool,
+    k: Fe,
+    steps: &mut Steps<L>,
+) -> (LevelWord, Path)
+    ensures word { result.0 ≡ value_word path.now bit k }
+    ensures path { result.1 ≡ path_after path.now bit }
+{
+    let from0 = extend(&path.seed0, steps);
+    let from1 = extend(&path.seed1, steps);
+    let (seed0, seed1) = kept_seeds(path, bit, &from0, &from1);
+    value_level(
+        path,
+        bit,
+        k,
+        &from0,
+        &from1,
+        &convert(&seed0),
+        &convert(&seed1),
+    )
 }

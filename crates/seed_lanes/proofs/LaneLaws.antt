@@ -6,7 +6,7 @@ use Rattle.std.specs.Simd.Lanes.{zip2}
 use Rattle.rand_chacha.specs.Block.{add32, xor_rotate, block_word, initial_state, double_rounds}
 use Rattle.rand_chacha.specs.ChaCha.{key_of}
 use Rattle.definitions.specs.Words.{extend, convert, word, word_bytes, part, number}
-use Rattle.seed_lanes.specs.Blocks.{block_of, children_from, converted_from}
+use Rattle.seed_lanes.specs.Blocks.{block_of, children_from, converted_from, numbers_from, numbers_of}
 
 -- two shifts of each lane and an or are a rotation, for any number of lanes
 pub shifts_rotate : (k : ℕ) → 0 < k → k < 32 → (n : ℕ) (a b : List ℕ) → length a ≡ n → length b ≡ n → (j : ℕ) → j < n
@@ -40,6 +40,10 @@ pub convert_is : (seed : List ℕ) → converted_from (block_of (key_of seed) 0 
 unfolding block_of word word_bytes part number
 convert_is seed = refl
 
+pub numbers_is : (seed : List ℕ) (stream : ℕ) → numbers_from (block_of (key_of seed) 0 stream) ≡ numbers_of stream seed
+unfolding block_of word number
+numbers_is seed stream = refl
+
 pub block_from : (x f key : List ℕ) (counter nonce : ℕ) → f ≡ initial_state key counter nonce → x ≡ double_rounds 10 f
     → sums x f ≡ block_of key counter nonce
 unfolding block_of block_word
@@ -53,6 +57,9 @@ lane_children seed words next e f = rw (e, f) (extend_is seed)
 
 pub lane_converted : (seed words : List ℕ) → words ≡ block_of (key_of seed) 0 1 → converted_from words ≡ convert seed
 lane_converted seed words e = rw e (convert_is seed)
+
+pub lane_numbers : (seed words : List ℕ) (stream : ℕ) → words ≡ block_of (key_of seed) 0 stream → numbers_from words ≡ numbers_of stream seed
+lane_numbers seed words stream e = rw e (numbers_is seed stream)
 
 pub four_mapped : {X : Type 0} (f : List ℕ → X) (xs : List (List ℕ)) (a b c d : X) → length xs ≡ 4
     → a ≡ f (slice_index_or xs 0 []) → b ≡ f (slice_index_or xs 1 []) → c ≡ f (slice_index_or xs 2 []) → d ≡ f (slice_index_or xs 3 [])

@@ -3,7 +3,7 @@ use Rattle.std.specs.Prelude.{ℕ, ◌+◌, ◌*◌, ◌/◌, ◌%◌, ◌^◌, 
 use Rattle.rand_chacha.specs.Block.{block_word}
 use Rattle.rand_chacha.specs.ChaCha.{seed_of}
 use Rattle.rand_chacha.specs.Lanes.{lane_at}
-use Rattle.definitions.specs.Words.{Children, Converted}
+use Rattle.definitions.specs.Words.{Children, Converted, number}
 
 -- the key of lane j
 abbrev pub key_lane : ℕ → List (List ℕ) → List ℕ
@@ -37,3 +37,17 @@ number_from words k =
 -- what the sixteen words of a block are read as: a seed and two numbers
 abbrev pub converted_from : List ℕ → Converted
 converted_from words = record { next = seed_of words; u = number_from words 8; v = number_from words 12 }
+
+-- three numbers below 2 ^ 128
+pub record Numbers : Type 0 where
+  pub first : ℕ
+  pub second : ℕ
+  pub third : ℕ
+
+-- those at the front of a stream of a seed, four words each
+abbrev pub numbers_of : ℕ → List ℕ → Numbers
+numbers_of stream seed = record { first = number seed stream 0; second = number seed stream 4; third = number seed stream 8 }
+
+-- what the sixteen words of a block are read as: three numbers
+abbrev pub numbers_from : List ℕ → Numbers
+numbers_from words = record { first = number_from words 0; second = number_from words 4; third = number_from words 8 }

@@ -1,13 +1,14 @@
-//! Eight seeds at once: the blocks that `extend` and `convert` read, a lane for each seed.
+//! Eight seeds at once: the blocks that `extend`, `convert` and numbers are read from, a lane for each seed.
 
 ghost use Rattle.std.specs.Prelude.{◌≡◌, ℕ, ◌<◌, [], map, slice_index_or};
 ghost use Rattle.rand_chacha.specs.Lanes.{lane};
 ghost use Rattle.rand_chacha.specs.ChaCha.{key_of};
 ghost use Rattle.definitions.specs.Words.{extend, convert};
-ghost use Rattle.seed_lanes.specs.Blocks.{key_lane};
+ghost use Rattle.seed_lanes.specs.Blocks.{key_lane, numbers_of};
 
+use crate::numbers::Numbers;
 use crate::rounds::{Lanes, block};
-use crate::words::{children_from, converted_from, words_of};
+use crate::words::{children_from, converted_from, numbers_from, words_of};
 use seed_expand::{Children, Converted, Seed};
 
 /// The keys of the seeds, word by word: lane j of each word belongs to seed j.
@@ -94,5 +95,22 @@ pub(crate) fn convert(seeds: &[Seed; 8]) -> [Converted; 8]
         converted_from(words_at(&words, 5)),
         converted_from(words_at(&words, 6)),
         converted_from(words_at(&words, 7)),
+    ]
+}
+
+/// The numbers at the front of a stream of eight seeds.
+pub(crate) fn numbers(seeds: &[Seed; 8], stream: u32) -> [Numbers; 8]
+    ensures { result ≡ map (numbers_of stream) seeds.now }
+{
+    let words = block(&keys(seeds), 0, stream);
+    [
+        numbers_from(words_at(&words, 0)),
+        numbers_from(words_at(&words, 1)),
+        numbers_from(words_at(&words, 2)),
+        numbers_from(words_at(&words, 3)),
+        numbers_from(words_at(&words, 4)),
+        numbers_from(words_at(&words, 5)),
+        numbers_from(words_at(&words, 6)),
+        numbers_from(words_at(&words, 7)),
     ]
 }

@@ -3,8 +3,9 @@
 
 ghost use Rattle.std.specs.Prelude.{◌≡◌, ℕ, ◌+◌, ◌*◌, ◌/◌, ◌%◌, ◌^◌, ◌==◌, ◌<◌, [], ◌∷◌, slice_index};
 ghost use Rattle.rand_chacha.specs.ChaCha.{key_of, seed_of};
-ghost use Rattle.seed_lanes.specs.Blocks.{children_from, converted_from, number_from};
+ghost use Rattle.seed_lanes.specs.Blocks.{children_from, converted_from, number_from, numbers_from};
 
+use crate::numbers::Numbers;
 use rand_core::utils::read_u32;
 use seed_expand::{Children, Converted, Seed};
 
@@ -111,5 +112,17 @@ pub(crate) fn converted_from(words: [u32; 16]) -> Converted
         next: seed_from([w0, w1, w2, w3, w4, w5, w6, w7]),
         u: number_from(w8, w9, w10, w11),
         v: number_from(w12, w13, w14, w15),
+    }
+}
+
+/// The three numbers that the sixteen words of a block give.
+#[inline(always)]
+pub(crate) fn numbers_from(words: [u32; 16]) -> Numbers
+    ensures { result ≡ numbers_from words }
+{
+    Numbers {
+        first: number_from(words[0], words[1], words[2], words[3]),
+        second: number_from(words[4], words[5], words[6], words[7]),
+        third: number_from(words[8], words[9], words[10], words[11]),
     }
 }
