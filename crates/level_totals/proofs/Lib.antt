@@ -1,2 +1,4 @@
+mod Locks
 mod Posts
 mod Closing
+mod Finishing

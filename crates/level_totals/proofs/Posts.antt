@@ -1,21 +1,21 @@
--- One post at the first lock of a row.
-use Rattle.std.proofs.Common.{◌≡◌, ℕ, List, [], ◌∷◌, ◌++◌, length, drop, refl, ap, sym, ◌∙◌, subst, arith}
+-- One post at the lock of a stripe.
+use Rattle.std.proofs.Common.{◌≡◌, ◌≢◌, ℕ, zero, suc, List, [], ◌∷◌, ◌++◌, length, map, drop, get_or, refl, ap, sym, ◌∙◌, subst, arith}
 use Rattle.std.proofs.lemmas.List.{append-nil}
 use mathlib.Core.List.{IsPrefix}
 use Rattle.turn_lock.specs.Logs.{GrewBy}
-use Rattle.turn_lock.specs.Seen.{LockId, turn_of, pass_after}
-use Rattle.lock_row.specs.Rows.{RowTurnSeen, locks_of, turn_locks, plans_of, Takes}
+use Rattle.turn_lock.specs.Seen.{PassSeen, TurnSeen, turn_of, pass_after}
+use Rattle.lock_row.specs.Rows.{RowTurnSeen, Takes}
 use Rattle.core_definitions.specs.Phase.{Posting}
-use Rattle.phase_state.specs.declared.phase_plan.PlanSeen.{PlanSeen}
 use Rattle.phase_state.specs.declared.posting.Posted.{Posted}
 use Rattle.phase_state.specs.declared.posting.Posted.TheVariants.{Added, Repeat}
 use Rattle.phase_state.specs.Logs.{posting, IsPosted}
-use Rattle.level_totals.specs.Levels.{LevelPassSeen, number_of, seen_of, own_of, HasSeen, IsOwned}
+use Rattle.level_totals.specs.declared.held_phase.StripePlan.{StripePlan}
+use Rattle.level_totals.specs.Levels.{LevelPassSeen, numbers_of, number_in, seen_in, own_in, SawPost, OwnsPost, SameElsewhere, IsOwned}
 
 abbrev by_number : Posting → ℕ
 by_number e = e.number
 
-pub more_of : (r : Posted) (number k : ℕ) (old new : List Posting) → IsPosted r number k old new → GrewBy by_number number old new
+more_of : (r : Posted) (number k : ℕ) (old new : List Posting) → IsPosted r number k old new → GrewBy by_number number old new
 more_of Added number k old new h = (posting number k ∷ [], h.1, (refl, tt))
 more_of Repeat number k old new h = ([], h.1 ∙ sym (append-nil old), tt)
 
@@ -27,54 +27,79 @@ owned_of : (r : Posted) (number k : ℕ) (old new own : List Posting) → IsPost
 owned_of Added number k old new own h = ap (λ l. own ++ l) (ap (drop (length old)) h.1 ∙ drop_seam old (posting number k ∷ []))
 owned_of Repeat number k old new own h = ap (λ l. own ++ l) (ap (drop (length old)) (h.1 ∙ sym (append-nil old)) ∙ drop_seam old []) ∙ append-nil own
 
-none_before : {X : Type 0} (xs : List X) → length xs ≡ 0 → xs ≡ []
-none_before [] e = refl
-none_before (x ∷ xs) e = absurd (omega (arith, e))
-
-first_plan : PlanSeen → List PlanSeen → PlanSeen
-first_plan d [] = d
-first_plan d (p ∷ ps) = p
-
--- the lock in turn has the level's plan
-pub plan_is : (t : RowTurnSeen PlanSeen Posting) (locks : List (LockId PlanSeen)) (plan : PlanSeen) → turn_locks t ≡ locks → length t.before ≡ 0 → plans_of locks ≡ plan ∷ [] → t.turn.lock.plan ≡ plan
-unfolding first_plan
-plan_is t locks plan is at plans =
-    let here : turn_locks t ≡ t.turn.lock ∷ locks_of t.after = ap (λ b. locks_of b ++ t.turn.lock ∷ locks_of t.after) (none_before t.before at) in
-    ap (first_plan plan) (ap plans_of (sym here ∙ is) ∙ plans)
-
 -- the log grew by postings of the pass alone
-pub has_grown : (answer : Posted) (tile n : ℕ) (pass : LevelPassSeen) (log now : List Posting) (t : RowTurnSeen PlanSeen Posting) → Takes by_number 0 pass log t → n ≡ t.turn.number
+pub has_grown : (answer : Posted) (tile n stripe : ℕ) (pass : LevelPassSeen) (log now : List Posting) (t : RowTurnSeen StripePlan Posting) → Takes by_number stripe pass log t → n ≡ t.turn.number
     → IsPosted answer n tile log now → GrewBy by_number t.turn.number t.turn.taken now
-has_grown answer tile n pass log now t takes number posted =
-    subst (λ l. GrewBy by_number t.turn.number l now) (sym (ap (λ u. u.taken) takes.turn))
+has_grown answer tile n stripe pass log now t takes number posted =
+    subst (λ l. GrewBy by_number t.turn.number l now) (sym (ap (λ (u : TurnSeen StripePlan Posting). u.taken) takes.turn))
     (subst (λ m. GrewBy by_number m log now) number (more_of answer n tile log now posted))
 
-module _ (answer : Posted) (tile n : ℕ) (pass new : LevelPassSeen) (log now : List Posting) (t : RowTurnSeen PlanSeen Posting) (takes : Takes by_number 0 pass log t)
+-- ---- lists that differ at one place
+
+module _ {X Y : Type 0} (f : X → Y) where
+  at_seam : (d : Y) (before : List X) (x : X) (after : List X) → get_or (map f (before ++ x ∷ after)) (length before) d ≡ f x
+  at_seam d [] x after = refl
+  at_seam d (b ∷ bs) x after = at_seam d bs x after
+
+  beside : (d : Y) (before : List X) (x y : X) (after : List X) (place : ℕ) → place ≢ length before → get_or (map f (before ++ x ∷ after)) place d ≡ get_or (map f (before ++ y ∷ after)) place d
+  beside d [] x y after zero other = absurd (other refl)
+  beside d [] x y after (suc place) other = refl
+  beside d (b ∷ bs) x y after zero other = refl
+  beside d (b ∷ bs) x y after (suc place) other = beside d bs x y after place (λ e. other (ap suc e))
+
+  same_images : (before : List X) (x y : X) (after : List X) → f x ≡ f y → map f (before ++ x ∷ after) ≡ map f (before ++ y ∷ after)
+  same_images [] x y after e = ap (λ z. z ∷ map f after) e
+  same_images (b ∷ bs) x y after e = ap (λ l. f b ∷ l) (same_images bs x y after e)
+
+-- ---- the pass before and after the post
+
+module _ (answer : Posted) (tile n stripe : ℕ) (pass new : LevelPassSeen) (log now : List Posting) (t : RowTurnSeen StripePlan Posting) (takes : Takes by_number stripe pass log t)
     (is : new ≡ t.before ++ pass_after t.turn now ∷ t.after) (number : n ≡ t.turn.number) (posted : IsPosted answer n tile log now) where
-  none : t.before ≡ []
-  none = none_before t.before takes.at
+  after : PassSeen StripePlan Posting
+  after = pass_after (turn_of takes.one log) now
 
-  was : pass ≡ takes.one ∷ t.after
-  was = takes.cut ∙ ap (λ b. b ++ takes.one ∷ t.after) none
+  becomes : new ≡ t.before ++ pass_after (turn_of takes.one log) now ∷ t.after
+  becomes = is ∙ ap (λ (u : TurnSeen StripePlan Posting). t.before ++ pass_after u now ∷ t.after) takes.turn
 
-  becomes : new ≡ pass_after (turn_of takes.one log) now ∷ t.after
-  becomes = is ∙ ap (λ b. b ++ pass_after t.turn now ∷ t.after) none ∙ ap (λ u. pass_after u now ∷ t.after) takes.turn
+  was_at : {Y : Type 0} (f : PassSeen StripePlan Posting → Y) (d : Y) → get_or (map f pass) stripe d ≡ f takes.one
+  was_at f d =
+      ap (λ (p : LevelPassSeen). get_or (map f p) stripe d) takes.cut
+      ∙ ap (λ k. get_or (map f (t.before ++ takes.one ∷ t.after)) k d) (sym takes.at) ∙ at_seam f d t.before takes.one t.after
 
-  number_is : n ≡ number_of pass
-  number_is = number ∙ ap (λ u. u.number) takes.turn ∙ sym (ap number_of was)
+  is_at : {Y : Type 0} (f : PassSeen StripePlan Posting → Y) (d : Y) → get_or (map f new) stripe d ≡ f (pass_after (turn_of takes.one log) now)
+  is_at f d =
+      ap (λ (p : LevelPassSeen). get_or (map f p) stripe d) becomes
+      ∙ ap (λ k. get_or (map f (t.before ++ pass_after (turn_of takes.one log) now ∷ t.after)) k d) (sym takes.at)
+      ∙ at_seam f d t.before (pass_after (turn_of takes.one log) now) t.after
 
-  pub number_stays : number_of new ≡ number_of pass
-  number_stays = ap number_of becomes ∙ sym (ap number_of was)
+  elsewhere : {Y : Type 0} (f : PassSeen StripePlan Posting → Y) (d : Y) (other : ℕ) → other ≢ stripe → get_or (map f new) other d ≡ get_or (map f pass) other d
+  elsewhere f d other ne =
+      ap (λ (p : LevelPassSeen). get_or (map f p) other d) becomes
+      ∙ beside f d t.before (pass_after (turn_of takes.one log) now) takes.one t.after other (λ e. ne (e ∙ takes.at))
+      ∙ sym (ap (λ (p : LevelPassSeen). get_or (map f p) other d) takes.cut)
 
-  pub has_seen : HasSeen answer (number_of pass) tile (seen_of pass) (seen_of new)
+  number_is : n ≡ number_in stripe pass
+  number_is = number ∙ ap (λ (u : TurnSeen StripePlan Posting). u.number) takes.turn ∙ sym (was_at (λ p. p.number) 0)
+
+  here : IsPosted answer (number_in stripe pass) tile log now
+  here = subst (λ m. IsPosted answer m tile log now) number_is posted
+
+  pub numbers_stay : numbers_of new ≡ numbers_of pass
+  numbers_stay =
+      ap numbers_of becomes ∙ same_images (λ (p : PassSeen StripePlan Posting). p.number) t.before (pass_after (turn_of takes.one log) now) takes.one t.after refl ∙ sym (ap numbers_of takes.cut)
+
+  pub has_seen : SawPost answer stripe tile pass new
   has_seen = (
     log,
-    subst (λ l. IsPrefix l log) (sym (ap seen_of was)) takes.seen,
-    subst (λ l. IsPosted answer (number_of pass) tile log l) (sym (ap seen_of becomes)) (subst (λ m. IsPosted answer m tile log now) number_is posted),
+    subst (λ l. IsPrefix l log) (sym (was_at (λ p. p.seen) [])) takes.seen,
+    subst (IsPosted answer (number_in stripe pass) tile log) (sym (is_at (λ p. p.seen) [])) here,
   )
 
-  pub is_owned : IsOwned answer (number_of pass) tile (own_of pass) (own_of new)
+  pub is_owned : OwnsPost answer stripe tile pass new
   is_owned =
-      subst (λ l. IsOwned answer (number_of pass) tile l (own_of new)) (sym (ap own_of was))
-      (subst (λ l. IsOwned answer (number_of pass) tile takes.one.own l) (sym (ap own_of becomes))
-      (owned_of answer (number_of pass) tile log now takes.one.own (subst (λ m. IsPosted answer m tile log now) number_is posted)))
+      subst (λ l. IsOwned answer (number_in stripe pass) tile l (own_in stripe new)) (sym (was_at (λ p. p.own) []))
+      (subst (IsOwned answer (number_in stripe pass) tile takes.one.own) (sym (is_at (λ p. p.own) []))
+      (owned_of answer (number_in stripe pass) tile log now takes.one.own here))
+
+  pub others_stay : SameElsewhere stripe pass new
+  others_stay other ne = (elsewhere (λ p. p.seen) [] other ne, elsewhere (λ p. p.own) [] other ne)

@@ -1,11 +1,12 @@
-//! A level's phase on one side, posted by many threads: its state behind a row of locks, of one lock now.
-//! Each post is in the one log of the lock, and what all posted stands in the state that the level leaves.
+//! A level's phase on one side, posted by many threads: its states behind a row of locks, one for each stripe of candidate blocks.
+//! Each post is in the one log of its tile's stripe, and what all posted stands in the state that the level leaves.
 #![tactic(auto)]
 
 mod finished;
 mod held_phase;
 mod level;
+mod stripes;
 
 pub use crate::finished::Finished;
-pub use crate::held_phase::HeldPhase;
+pub use crate::held_phase::{HeldPhase, StripePlan};
 pub use crate::level::{Level, LevelPass};
