@@ -1,7 +1,7 @@
 //! Makes the nodes of reports, each report's from those that were kept of it before, or else by one way down.
 //! The nodes of each report stand behind those of the one before.
 
-ghost use Rattle.std.specs.Prelude.{◌≡◌, ◌≤◌, ◌<◌, ◌++◌, None, length, map, slice_index_or, IfOk};
+ghost use Rattle.std.specs.Prelude.{◌≡◌, ◌≤◌, ◌<◌, ◌++◌, None, length, map, IfOk};
 ghost use Rattle.std.specs.List.{All};
 ghost use Rattle.definitions.specs.Evaluation.{node as node_of};
 ghost use Rattle.idpf_lanes.specs.Stands.{AreLong, AreFound};

@@ -1,5 +1,4 @@
 use Rattle.std.proofs.Common.{◌≡◌, ℕ, ◌<◌, length, slice_index_or, None}
-use Rattle.std.specs.Prelude.{IsNone}
 use Rattle.kept_nodes.proofs.rows.none_found.Given as goal
 
 abbrev pub invariant-loop-k : goal.invariant-loop-k

@@ -2,7 +2,6 @@ use Rattle.std.proofs.Common.{sym, subst}
 use Rattle.definitions.specs.declared.Side.{Side}
 use Rattle.definitions.specs.Evaluation.{Share}
 use Rattle.idpf_lanes.specs.Stands.{AreFound}
-use Rattle.kept_nodes.specs.Kept.{share_at}
 use Rattle.kept_nodes.proofs.rows.row_of.Goals as goal
 
 pub put_kept-requires-clause-found : goal.put_kept-requires-clause-found
