@@ -12,7 +12,8 @@ use Rattle.definitions.specs.Evaluation.{Share, Node}
 use Rattle.prefix_bits.specs.Bits.{bits_eq}
 use Rattle.prefix_bits.specs.Orders.{bits_decide}
 use Rattle.eval_cache.specs.declared.key.Key.{Key}
-use Rattle.eval_cache.specs.Entries.{CacheSeen, AreNodes, node_at, is_key, found_in, entry_of, with_first, used, kept}
+use Rattle.kept_nodes.specs.Kept.{node_at}
+use Rattle.eval_cache.specs.Entries.{CacheSeen, AreNodes, is_key, found_in, entry_of, with_first, used, kept}
 
 abbrev key_of : ℕ → List Bool → Key
 key_of report prefix = record { report = report; prefix = prefix }

@@ -11,7 +11,8 @@ use Rattle.turn_lock.specs.Places.{StandsAt}
 use Rattle.lock_row.specs.Rows.{locks_of, plans_of}
 use Rattle.eval_cache.specs.declared.shard.ShardPlan.{ShardPlan}
 use Rattle.eval_cache.specs.declared.key.Key.{Key}
-use Rattle.eval_cache.specs.Entries.{CacheSeen, node_at, kept}
+use Rattle.kept_nodes.specs.Kept.{node_at}
+use Rattle.eval_cache.specs.Entries.{CacheSeen, kept}
 use Rattle.eval_cache.proofs.Entries.{in_kept}
 use Rattle.eval_cache.specs.Shards.{ShardSeen, plan_of, planned, AreOfShard, AreShards}
 

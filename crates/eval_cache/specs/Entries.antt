@@ -1,11 +1,11 @@
 -- The entries of a cache of nodes, and what a look-up and an offer make of them.
-use Rattle.std.specs.Prelude.{ℕ, ◌≡◌, ◌-◌, Bool, nat_eq, ◌&&◌, List, ◌∷◌, take, slice_index_or, Contains, Option}
+use Rattle.std.specs.Prelude.{ℕ, ◌≡◌, ◌-◌, Bool, nat_eq, ◌&&◌, List, ◌∷◌, take, Contains, Option}
 use Rattle.std.specs.Option.{option_map_or}
 use Rattle.std.specs.Map.{lookup, remove_entry}
 use Rattle.definitions.specs.declared.Side.{Side}
-use Rattle.definitions.specs.Evaluation.{Share, Node, node}
-use Rattle.core_definitions.specs.Phase.{no_share}
+use Rattle.definitions.specs.Evaluation.{Share, Node}
 use Rattle.prefix_bits.specs.Bits.{bits_eq}
+use Rattle.kept_nodes.specs.Kept.{node_at}
 use Rattle.eval_cache.specs.declared.key.Key.{Key}
 
 -- the shares of one side, the nodes that are kept, the one used last first, and how many there may be
@@ -14,14 +14,6 @@ pub record CacheSeen : Type 0 where
   pub side : Side
   pub entries : List (Key × Node)
   pub most : ℕ
-
--- the share of a report, by its place
-abbrev pub share_at : List Share → ℕ → Share
-share_at shares report = slice_index_or shares report no_share
-
--- a report's node at a prefix, evaluated from its own share
-abbrev pub node_at : List Share → Side → ℕ → List Bool → Node
-node_at shares side report prefix = node (share_at shares report) side prefix
 
 -- each entry's node is the evaluated one of its own report at its own prefix
 abbrev pub AreNodes : List Share → Side → List (Key × Node) → Type 0

@@ -6,7 +6,8 @@ use Rattle.turn_lock.specs.Seen.{LockId}
 use Rattle.turn_lock.specs.Places.{StandsAt}
 use Rattle.eval_cache.specs.declared.shard.ShardPlan.{ShardPlan}
 use Rattle.eval_cache.specs.declared.key.Key.{Key}
-use Rattle.eval_cache.specs.Entries.{CacheSeen, node_at, share_at}
+use Rattle.kept_nodes.specs.Kept.{node_at, share_at}
+use Rattle.eval_cache.specs.Entries.{CacheSeen}
 
 -- a shared cache: the shares of one side, how many entries a shard may have, and the locks of its shards
 pub record SharedSeen : Type 0 where

@@ -3,7 +3,7 @@
 
 ghost use Rattle.std.specs.Prelude.{◌≡◌, ◌<◌, ◌≤◌, ◌%◌, [], length, map, IfOk, IfSome};
 ghost use Rattle.std.specs.List.{range_with_len};
-ghost use Rattle.eval_cache.specs.Entries.{node_at, share_at};
+ghost use Rattle.kept_nodes.specs.Kept.{node_at, share_at};
 ghost use Rattle.eval_cache.specs.Shards.{plan_of, planned, AreFound, AreFor};
 
 use crate::state::CacheState;

@@ -1,14 +1,15 @@
 //! The shared cache: several shards, each behind a lock of its own, used by many threads through passes.
-//! What is found is the evaluated node; whether it is found depends on who came when.
+//! What is found is the evaluated node; whether it is found depends on who came when. Beside them stand kept nodes, which are only read.
 
 ghost use Rattle.std.specs.Prelude.{◌≡◌, ◌<◌, ◌≤◌, ◌%◌, [], length, IfOk, vec_len};
-ghost use Rattle.std.specs.List.{AllByRecursion};
+ghost use Rattle.std.specs.List.{All, AllByRecursion};
 ghost use Rattle.lock_row.specs.Rows.{turn_locks};
 ghost use Rattle.eval_cache.specs.Shards.{plan_of, planned, AreFound, AreFor};
 
 use crate::pass::{CachePass, passes_of};
 use crate::shard::{Shard, empty_shards};
 use idpf_eval::{Node, Share};
+use kept_nodes::KeptNodes;
 use lock_row::{Row, RowTurn};
 use prefix_bits::{Prefix, Side};
 use std::alloc::{AllocError, Global};
@@ -22,17 +23,19 @@ pub struct EvalCache<'a> {
     side: Side,
     most: u32,
     row: Row<Shard<'a>>,
+    kept: KeptNodes<'a>,
 }
 
 impl<'a> Model for EvalCache<'a> {
-    ghost use Rattle.std.specs.Prelude.{◌<◌, length};
+    ghost use Rattle.std.specs.Prelude.{◌≡◌, ◌<◌, length};
     ghost use Rattle.eval_cache.specs.Shards.{SharedSeen, AreShards};
 
     ghost Value = { SharedSeen };
 
     ghost view = { λ c. record { shares = c.shares.now; side = c.side; most = c.most; locks = c.row.locks } };
 
-    ghost invariant = { λ c. (0 < length c.row.locks) × AreShards c.side c.shares.now c.most c.row.locks };
+    ghost invariant = { λ c. (0 < length c.row.locks) × AreShards c.side c.shares.now c.most c.row.locks
+        × (c.kept.side ≡ c.side) × (c.kept.shares ≡ c.shares.now) };
 }
 
 impl<'a> EvalCache<'a> {
@@ -64,6 +67,7 @@ impl<'a> EvalCache<'a> {
             side,
             most: entries,
             row,
+            kept: KeptNodes::none(alloc, shares, side),
         };
         Ok((cache, made))
     }
@@ -107,6 +111,43 @@ impl<'a> EvalCache<'a> {
         let (mut to, turn) = self.take_shard(rt, pass, report);
         to.keep_all(report, prefixes, nodes);
         self.give_shard(to, turn)
+    }
+
+    /// The nodes that are kept beside the shards. They are read without a turn.
+    pub fn kept(&self) -> &KeptNodes<'a>
+        ensures side { result.now.side ≡ self.now.side }
+        ensures shares { result.now.shares ≡ self.now.shares }
+    {
+        &self.kept
+    }
+
+    /// The nodes to keep for a level with these candidates and live reports, as [`KeptNodes::next`] makes them from those that are kept
+    /// now: none where the shards have room for all.
+    pub fn kept_for(
+        &self,
+        alloc: Global,
+        level: u16,
+        candidates: &[Prefix],
+        live: &[u32],
+    ) -> KeptNodes<'a>
+        requires second { 2 ≤ level }
+        requires bits { All (λ q. length q ≡ level) candidates.now }
+        requires live { All (λ i. i < length self.now.shares) live.now }
+        requires levels { All (λ s. level ≤ length s.levels) self.now.shares }
+        ensures side { result.side ≡ self.now.side }
+        ensures shares { result.shares ≡ self.now.shares }
+    {
+        let entries = u64::from(self.most).saturating_mul(self.row.len() as u64);
+        self.kept.next(alloc, level, candidates, live, entries)
+    }
+
+    /// Keeps these nodes beside the shards in the place of those before. Nothing else is changed.
+    pub fn keep(&mut self, kept: KeptNodes<'a>)
+        requires side { kept.side ≡ self.old.side }
+        requires shares { kept.shares ≡ self.old.shares }
+        ensures { self.new ≡ self.old }
+    {
+        self.kept = kept;
     }
 
     /// Waits for the turn at the report's shard, and takes it.

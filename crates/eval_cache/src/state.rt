@@ -3,7 +3,8 @@
 
 ghost use Rattle.std.specs.Prelude.{◌≡◌, ◌<◌, ◌≤◌, [], length, true, IfOk, IfSome, IsSome};
 ghost use Rattle.std.specs.Bool.{OnTrue, OnFalse};
-ghost use Rattle.eval_cache.specs.Entries.{node_at, share_at, found_in, used, kept};
+ghost use Rattle.kept_nodes.specs.Kept.{node_at, share_at};
+ghost use Rattle.eval_cache.specs.Entries.{found_in, used, kept};
 
 use crate::key::Key;
 use idpf_eval::{Node, Share};

@@ -5,6 +5,7 @@ mod cache_threads;
 mod caches;
 mod evaluation;
 mod generation;
+mod kept;
 mod pairs;
 mod sketches;
 mod workloads;

@@ -3,7 +3,7 @@
 
 ghost use Rattle.std.specs.Prelude.{◌≡◌, ℕ, ◌<◌, ◌≤◌, length, map, slice_index, IfOk};
 ghost use Rattle.definitions.specs.Evaluation.{node as node_of};
-ghost use Rattle.eval_cache.specs.Entries.{share_at};
+ghost use Rattle.kept_nodes.specs.Kept.{share_at};
 ghost use Rattle.tile_filling.specs.Blocks.{IsBlock};
 
 use crate::block::Block;
@@ -40,8 +40,9 @@ fn count_found(found: &[Option<Node>], places: &[usize]) -> u64
     count
 }
 
-/// Makes a report's nodes at the candidates from those of the fronts: one look-up for all fronts, one way down for all that are
-/// missing, and one step from each front. How many nodes were made from one that was found comes first.
+/// Makes a report's nodes at the candidates from those of the fronts: one look-up for all fronts, the kept nodes for those that the
+/// look-up did not give, one way down for all that are still missing, and one step from each front. How many nodes were made from
+/// one that the look-up gave comes first.
 fn through_fronts<'s, R: Wait>(
     rt: &R,
     cache: &EvalCache<'s>,
@@ -74,6 +75,7 @@ fn through_fronts<'s, R: Wait>(
     let (side, level) = (block.side, block.level);
     let pass = cache.gather(rt, pass, report, block.fronts, found);
     let count = count_found(found, block.places);
+    cache.kept().put_kept(report, block.fronts, found);
     buffers.nodes_found(share, side, level - 1, block.fronts, found, wanted, parents);
     buffers.children_of(
         share,

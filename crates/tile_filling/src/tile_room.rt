@@ -222,10 +222,11 @@ impl TileRoom {
     /// Makes the part of a tile: each live report of the tile is evaluated at each candidate of the tile, and the coins are
     /// those of the candidates' places in the whole list.
     ///
-    /// From level 2 on a report's nodes come from those of the candidates' fronts: these are looked up in the cache at once, and
-    /// what is not found is made by one way down from the root. Each report's nodes at the candidates are then offered to
-    /// the cache in the candidates' order. How many nodes were made from one that was found comes first; no clause speaks of it. It
-    /// waits for its turns at the cache, and takes no memory: a node for which the cache has none is not kept.
+    /// From level 2 on a report's nodes come from those of the candidates' fronts: these are looked up in the cache at once, then
+    /// among the nodes that are kept beside it, and what is in neither is made by one way down from the root. Each report's nodes at
+    /// the candidates are then offered to the cache in the candidates' order. How many nodes were made from one that the cache's
+    /// look-up gave comes first; no clause speaks of it. It waits for its turns at the cache, and takes no memory: a node for which
+    /// the cache has none is not kept.
     pub fn fill<'s, R: Wait>(
         &mut self,
         rt: &R,

@@ -1,6 +1,7 @@
-use Rattle.std.proofs.Common.{◌≡◌, ℕ, List, sym, subst, arith}
+use Rattle.std.proofs.Common.{◌≡◌, ℕ, List, sym, subst, ap, arith}
 use Rattle.std.specs.List.{AllByRecursion}
 use Rattle.turn_lock.specs.Seen.{LockId}
+use Rattle.kept_nodes.specs.Kept.{KeptSeen}
 use Rattle.eval_cache.specs.declared.shard.ShardPlan.{ShardPlan}
 use Rattle.eval_cache.proofs.Shards.{made_shards, of_locks}
 use Rattle.eval_cache.proofs.shared.EvalCache.new.Goals as goal
@@ -8,7 +9,7 @@ use Rattle.eval_cache.proofs.shared.EvalCache.new.Goals as goal
 pub invariant_of-cache : goal.invariant_of-cache
 invariant_of-cache c =
     let made = made_shards c.args.side c.args.shares.now c.args.entries c.args.shards c.in_ok-row.row.locks c.in_ok-states.states.items c.in_ok-row.ensures.plans c.in_ok-states.ensures.plans in
-    (omega (arith, made.0, c.requires.shards), made.1)
+    (omega (arith, made.0, c.requires.shards), made.1, ap (λ (k : KeptSeen). k.side) c.none.ensures, ap (λ (k : KeptSeen). k.shares) c.none.ensures)
 
 pub returns-clause-shards : goal.returns-clause-shards
 returns-clause-shards c =

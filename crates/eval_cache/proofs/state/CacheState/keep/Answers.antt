@@ -1,5 +1,6 @@
 use Rattle.std.proofs.Common.{ap, ◌∙◌, sym, subst, IsSome}
-use Rattle.eval_cache.specs.Entries.{CacheSeen, node_at, found_in}
+use Rattle.kept_nodes.specs.Kept.{node_at}
+use Rattle.eval_cache.specs.Entries.{CacheSeen, found_in}
 use Rattle.eval_cache.proofs.Entries.{kept_nodes, kept_view}
 use Rattle.eval_cache.proofs.state.CacheState.keep.Goals as goal
 

@@ -1,0 +1,13 @@
+//! The nodes that a level's next one begins with: of each live report, at each prefix that is left.
+//! They are written once and then only read, so that no one waits for them.
+#![tactic(auto)]
+
+mod kept_nodes;
+mod line;
+mod next_level;
+mod rows;
+
+pub use crate::kept_nodes::KeptNodes;
+
+/// The most nodes that are kept of a side. A node has 56 bytes.
+pub const MOST_KEPT: usize = 4_194_304;
