@@ -1,7 +1,8 @@
 mod Together
+mod Lists
 mod Steps
+mod Striped
 mod Ends
 mod Whole
-mod Lists
 mod Workers
 mod Seats

@@ -11,20 +11,21 @@ use Rattle.phase_state.specs.declared.posting.Posted.TheVariants.{Added, Repeat}
 use Rattle.phase_state.specs.Logs.{posts, posting, tiles_in}
 use Rattle.tile_claims.specs.Lists.{times}
 use Rattle.phase_state.specs.Logs.{IsPosted}
-use Rattle.level_totals.specs.Levels.{IsOwned}
-use Rattle.phase_state.proofs.Marks.{nat_is, nat_is_not, posts_push, times_push}
+use Rattle.level_totals.specs.Levels.{IsOwned, Has}
+use Rattle.phase_state.proofs.Marks.{nat_is, nat_is_not, posts_push, posts_append, times_push}
 use Rattle.phase_state.proofs.Lists.{map_push}
 use Rattle.tile_claims.specs.Lists.{Ascends}
 use Rattle.phase_workers.specs.Crews.{Did, Swept, added_by}
-use Rattle.phase_workers.proofs.Together.{seen_there}
 
 pub there_of : (r : Posted) (number k : ℕ) (before new : List Posting) → IsPosted r number k before new → 0 < posts k new
 there_of Added number k before new h = let z : ◌≡◌ {A = ℕ} (cond (k == k) 1 0) 1 = rw (nat_is k k refl) refl in subst (λ l. 0 < posts k l) (sym h.1) (omega (arith, posts_push k before (posting number k), z))
 there_of Repeat number k before new h = subst (λ l. 0 < posts k l) (sym h.1) (omega (arith, h.0))
 
-pub seen_of : (r : Posted) (number k : ℕ) (seen before new : List Posting) → IsPrefix seen before → IsPosted r number k before new → IsPrefix seen new
-seen_of Added number k seen before new p h = (p.0 ++ posting number k ∷ [], sym (append_assoc seen p.0 (posting number k ∷ [])) ∙ (ap (λ l. l ++ posting number k ∷ []) p.1 ∙ sym h.1))
-seen_of Repeat number k seen before new p h = (p.0, p.1 ∙ sym h.1)
+-- the log after a post has what was seen before it
+pub has_of : (r : Posted) (number k : ℕ) (seen before new : List Posting) → IsPrefix seen before → IsPosted r number k before new → Has seen new
+has_of Added number k seen before new p h j =
+    omega (arith, ap (posts j) p.1, posts_append j seen p.0, ap (posts j) h.1, posts_append j before (posting number k ∷ []))
+has_of Repeat number k seen before new p h j = omega (arith, ap (posts j) p.1, posts_append j seen p.0, ap (posts j) h.1)
 
 each_push : (F : Posting → Type 0) (xs : List Posting) (e : Posting) → AllByRecursion F xs → F e → AllByRecursion F (xs ++ e ∷ [])
 each_push F [] e h f = (f, tt)
@@ -40,7 +41,7 @@ drew_it n xs = let z : ◌≡◌ {A = ℕ} (cond (n == n) 1 0) 1 = rw (nat_is n 
 pub did_none : (tells : Bool) (rule : ℕ → Bool) (tiles : ℕ) (seen : List Posting) → Did tells rule tiles [] seen []
 did_none tells rule tiles seen = record { went = λ t k less pos no. absurd (omega (arith, pos)); kept = λ t. tt }
 
-pub did_more : (tells : Bool) (rule : ℕ → Bool) (tiles n : ℕ) (drawn : List ℕ) (seen own seen' own' : List Posting) → Did tells rule tiles drawn seen own → IsPrefix seen seen'
+pub did_more : (tells : Bool) (rule : ℕ → Bool) (tiles n : ℕ) (drawn : List ℕ) (seen own seen' own' : List Posting) → Did tells rule tiles drawn seen own → Has seen seen'
     → (tells ≡ true → n < tiles → rule n ≡ false → 0 < posts n seen')
     → (tells ≡ true → AllByRecursion (λ e. rule e.tile ≡ false) own → AllByRecursion (λ e. rule e.tile ≡ false) own')
     → Did tells rule tiles (drawn ++ n ∷ []) seen' own'
@@ -48,7 +49,8 @@ did_more tells rule tiles n drawn seen own seen' own' d pre go keep = record {
   went = λ t k less pos no. dite (ℕ_discrete n k)
       (λ same. subst (λ j. 0 < posts j seen') same (go t (subst (λ j. j < tiles) (sym same) less) (subst (λ j. rule j ≡ false) (sym same) no)))
       (λ other. let z : ◌≡◌ {A = ℕ} (cond (n == k) 1 0) 0 = rw (nat_is_not n k other) refl in
-      seen_there k seen seen' pre (d.went t k less (omega (arith, pos, z, times_push k n drawn)) no));
+      let before = d.went t k less (omega (arith, pos, z, times_push k n drawn)) no in
+      omega (arith, before, pre k));
   kept = λ t. keep t (d.kept t);
 }
 
@@ -78,7 +80,7 @@ swept_more r number n count old now new s h = go r h
     all_more : (r : Posted) → IsPosted r number n now new → (k : ℕ) → k < n + 1 → 0 < posts k new
     all_more r h k less = dite (ℕ_discrete k n)
         (λ e. subst (λ j. 0 < posts j new) (sym e) (there_of r number n now new h))
-        (λ e. let pre = seen_of r number n now now new ([], append-nil now) h in seen_there k now new pre (s.all k (omega (arith, less, e))))
+        (λ e. let pre = has_of r number n now now new ([], append-nil now) h in omega (arith, s.all k (omega (arith, less, e)), pre k))
 
     go : (r : Posted) → IsPosted r number n now new → Swept number (n + 1) (count + added_by r) old new
     go Added h = record {

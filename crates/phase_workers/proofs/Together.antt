@@ -2,7 +2,6 @@
 use Rattle.std.proofs.Common.{◌≡◌, ◌≢◌, ℕ, ◌+◌, ◌<◌, ◌==◌, Bool, true, false, cond, List, [], ◌∷◌, ◌++◌, sum_by, count_by, refl, ap, sym, ◌∙◌, subst, arith, true≢false}
 use Rattle.std.proofs.lemmas.List.Sums.{sum_by-cons}
 use mathlib.Core.Logic.{dite}
-use mathlib.Core.List.{IsPrefix}
 use native.Mathlib.Decide.{ℕ_discrete}
 use Rattle.std.specs.List.{AllByRecursion}
 use Rattle.turn_lock.specs.Logs.{entries_of}
@@ -39,14 +38,6 @@ module _ {X Y : Type 0} (R : X → Y → Type 0) where
   pairs_left G [] (y ∷ ys) p go = absurd p
   pairs_left G (x ∷ xs) [] p go = absurd p
   pairs_left G (x ∷ xs) (y ∷ ys) p go = (go x y p.0, pairs_left G xs ys p.1 go)
-
-pub posts_append : (k : ℕ) (xs ys : List Posting) → posts k (xs ++ ys) ≡ posts k xs + posts k ys
-posts_append k [] ys = omega arith
-posts_append k (x ∷ xs) ys = omega (arith, sum_by-cons (λ (y : ℕ). cond (y == k) 1 0) x.tile (tiles_in xs), sum_by-cons (λ (y : ℕ). cond (y == k) 1 0) x.tile (tiles_in (xs ++ ys)), posts_append k xs ys)
-
--- what a pass has seen, the final log has
-pub seen_there : (k : ℕ) (seen log : List Posting) → IsPrefix seen log → 0 < posts k seen → 0 < posts k log
-seen_there k seen log pre pos = subst (λ l. 0 < posts k l) pre.1 (omega (arith, posts_append k seen pre.0, pos))
 
 -- Q of each entry, from Q of the entries of each number
 pub all_entries : (Q : Posting → Type 0) (n : ℕ) (log : List Posting) → ((x : ℕ) → x < n → AllByRecursion Q (entries_of (λ e. e.number) x log)) → AllByRecursion (λ e. e.number < n) log → AllByRecursion Q log

@@ -14,13 +14,12 @@ use Rattle.core_definitions.specs.Phase.{Posting}
 use Rattle.phase_state.specs.declared.phase_plan.PlanSeen.{PlanSeen}
 use Rattle.phase_state.specs.Logs.{posts, tiles_in, EachOnce, EachAtMostOnce}
 use Rattle.phase_state.specs.Phases.{StateSeen}
-use Rattle.phase_state.proofs.Marks.{nat_is, nat_is_not, below_is, below_not}
+use Rattle.phase_state.proofs.Marks.{nat_is, nat_is_not, below_is, below_not, posts_append}
 use Rattle.phase_workers.specs.Gates.{tells_of, rule_of}
 use Rattle.phase_workers.specs.Crews.{Worked, Swept, posted_by, IsRuled, IsRun}
 use Rattle.turn_lock.specs.Seen.{LockId}
 use Rattle.eval_cache.specs.declared.shard.ShardPlan.{ShardPlan}
 use Rattle.phase_workers.specs.Seen.{crew_of}
-use Rattle.phase_workers.proofs.Together.{posts_append}
 
 -- no entry of a number that none has
 none_of_number : (n : ℕ) (log : List Posting) → AllByRecursion (λ e. e.number < n) log → entries_of (λ e. e.number) n log ≡ []

@@ -3,13 +3,12 @@
 
 ghost use Rattle.std.specs.Prelude.{◌≡◌, ℕ, ◌<◌, Bool, true, false, length, All, MatchBool, vec_len};
 ghost use Rattle.std.specs.List.{AllByRecursion};
-ghost use mathlib.Core.List.{IsPrefix};
 ghost use Rattle.lock_row.specs.Rows.{locks_of};
 ghost use Rattle.tile_claims.specs.Plans.{tiles_of};
 ghost use Rattle.core_definitions.specs.Phase.{Posting as Entry};
 ghost use Rattle.phase_state.specs.Logs.{posts};
 ghost use Rattle.phase_state.specs.Rooms.{HasRoom};
-ghost use Rattle.level_totals.specs.Levels.{number_of, seen_of, own_of};
+ghost use Rattle.level_totals.specs.Levels.{number_of, seen_of, own_of, Has};
 ghost use Rattle.phase_workers.specs.Gates.{tells_of, rule_of};
 ghost use Rattle.phase_workers.specs.Crews.{Did, IsLast};
 ghost use Rattle.phase_workers.specs.Marked.{Ready, IsDone, Waiting, Home};
@@ -48,7 +47,7 @@ fn carry_out<'a, 's, G: Asked, R: Wait>(
     ensures mine { locks_of result.0 ≡ level.now.locks }
     ensures number { number_of result.0 ≡ number_of pass.entry }
     ensures room { (room.new.reports ≡ room.old.reports) × (room.new.candidates ≡ room.old.candidates) }
-    ensures seen { IsPrefix (seen_of pass.entry) (seen_of result.0) }
+    ensures seen { Has (seen_of pass.entry) (seen_of result.0) }
     ensures there { 0 < posts tile (seen_of result.0) }
     ensures kept { (rule : ℕ → Bool) → rule tile ≡ false → AllByRecursion (λ (e : Entry). rule e.tile ≡ false) (own_of pass.entry)
         → AllByRecursion (λ (e : Entry). rule e.tile ≡ false) (own_of result.0) }
@@ -78,7 +77,7 @@ fn serve<'t, 'a, 's, G: Asked, R: Wait>(
     ensures mine { locks_of result.0 ≡ shared.now.level.now.locks }
     ensures number { number_of result.0 ≡ number_of pass.entry }
     ensures room { (room.new.reports ≡ room.old.reports) × (room.new.candidates ≡ room.old.candidates) }
-    ensures seen { IsPrefix (seen_of pass.entry) (seen_of result.0) }
+    ensures seen { Has (seen_of pass.entry) (seen_of result.0) }
     ensures went { G.tells shared.now.gate.now ≡ true → G.rule shared.now.gate.now tile ≡ false → 0 < posts tile (seen_of result.0) }
     ensures kept { G.tells shared.now.gate.now ≡ true
         → AllByRecursion (λ (e : Entry). G.rule shared.now.gate.now e.tile ≡ false) (own_of pass.entry)

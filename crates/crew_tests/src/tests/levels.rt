@@ -1,4 +1,4 @@
-//! Six tiles of two reports by three candidates, posted twice through two passes of one level.
+//! The tiles of plans with two candidate blocks and with five, posted twice through two passes of one level.
 //! The first pass adds each of them, and the second none.
 
 ghost use Rattle.std.specs.Prelude.{◌≡◌};
@@ -63,18 +63,20 @@ fn post_twice<'a, R: Wait>(
 
 #[test]
 fn each_tile_is_added_once(rt: HostRuntime) -> Result<(), AllocError> {
-    let trial = Trial::new(rt.alloc(), 5, 4)?;
-    for (side, kind) in [(Side::Zero, Kind::Sketch), (Side::One, Kind::Totals)] {
-        let made = plan_of(&trial, side, kind, Cut::Small);
-        assert!(rt; made.is_some());
-        let Some(plan) = made else { return Ok(()) };
-        assert_eq!(rt; plan.count(), 6);
-        let (finished, once) = post_twice(&rt, rt.alloc(), plan)?;
-        assert!(rt; once);
-        assert!(rt; finished.all_posted());
-        match kind {
-            Kind::Sketch => assert!(rt; trial.has_sums(side, finished.sums())),
-            Kind::Totals => assert!(rt; trial.has_totals(side, finished.totals())),
+    for (candidates, cut, tiles) in [(4, Cut::Small, 6), (5, Cut::Single, 25)] {
+        let trial = Trial::new(rt.alloc(), 5, candidates)?;
+        for (side, kind) in [(Side::Zero, Kind::Sketch), (Side::One, Kind::Totals)] {
+            let made = plan_of(&trial, side, kind, cut);
+            assert!(rt; made.is_some());
+            let Some(plan) = made else { return Ok(()) };
+            assert_eq!(rt; plan.count(), tiles);
+            let (finished, once) = post_twice(&rt, rt.alloc(), plan)?;
+            assert!(rt; once);
+            assert!(rt; finished.all_posted());
+            match kind {
+                Kind::Sketch => assert!(rt; trial.has_sums(side, finished.sums())),
+                Kind::Totals => assert!(rt; trial.has_totals(side, finished.totals())),
+            }
         }
     }
     Ok(())

@@ -14,5 +14,5 @@ finish-requires-clause-mine g c = pairs_right _ _ _ _ c.requires.pairs (λ d p h
 pub returns-clause-worked : goal.returns-clause-worked
 returns-clause-worked g c =
     let count : vec_len c.args.passes ≡ c.args.level.passes = search rules in
-    worked _ _ _ _ _ _ _ _ _ _ c.requires.pairs (search rules) (search rules) c.close.ensures.once c.finish.ensures.seen c.finish.ensures.own c.finish.ensures.numbers
+    worked _ _ _ _ _ _ _ _ _ _ _ c.requires.pairs (search rules) c.close.ensures.once c.finish.ensures.seen c.finish.ensures.stripes
     (subst (λ (k : ℕ). AllByRecursion (λ (e : Posting). e.number < k) c.finish.result.log) count c.finish.ensures.entries)
