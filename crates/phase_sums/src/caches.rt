@@ -1,13 +1,14 @@
 //! The caches of both sides, which outlive the phases that use them, and the passes that one phase after another is given.
-//! Each side's cache has sixteen shards.
+//! Each side's cache has sixteen shards, and beside them what is kept for the next level.
 
-ghost use Rattle.std.specs.Prelude.{◌≡◌, ◌+◌, ◌≤◌, IfOk, vec_len};
+ghost use Rattle.std.specs.Prelude.{◌≡◌, ◌+◌, ◌<◌, ◌≤◌, IfOk, length, vec_len};
+ghost use Rattle.std.specs.List.{All};
 ghost use Rattle.definitions.specs.declared.Side.TheVariants.{Zero, One};
 ghost use Rattle.phase_sums.specs.Caches.{AreCaches};
 
 use eval_cache::{CachePass, EvalCache};
 use idpf_eval::Share;
-use prefix_bits::Side;
+use prefix_bits::{Prefix, Side};
 use std::alloc::{AllocError, Global};
 use std::marker::Model;
 
@@ -83,5 +84,23 @@ impl<'s> Caches<'s> {
             one: passes1,
         };
         Ok((caches, hold))
+    }
+
+    /// Keeps, beside each side's cache, the nodes that a level with these candidates begins with: of the live reports, at the fronts
+    /// of the candidates. They take the place of those that were kept for the level before, and are made from these. Side 0's
+    /// are made first. Nothing is kept where the shards have room for all, where it would be too much, or where there is no memory.
+    pub fn keep(&mut self, alloc: Global, level: u16, candidates: &[Prefix], live: &[u32])
+        requires second { 2 ≤ level }
+        requires bits { All (λ q. length q ≡ level) candidates.now }
+        requires live0 { All (λ i. i < length self.old.zero.shares) live.now }
+        requires live1 { All (λ i. i < length self.old.one.shares) live.now }
+        requires levels0 { All (λ s. level ≤ length s.levels) self.old.zero.shares }
+        requires levels1 { All (λ s. level ≤ length s.levels) self.old.one.shares }
+        ensures { self.new ≡ self.old }
+    {
+        let zero = self.zero.kept_for(alloc, level, candidates, live);
+        self.zero.keep(zero);
+        let one = self.one.kept_for(alloc, level, candidates, live);
+        self.one.keep(one);
     }
 }
