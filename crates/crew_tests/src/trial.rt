@@ -1,4 +1,4 @@
-//! The input of a trial: shares made of one byte each, a plan of them whose conditions are tried, and its plain sums.
+//! The input of a trial: shares made of one byte each or of strings, a plan of them whose conditions are tried, and its plain sums.
 //! All reports are live.
 
 ghost use Rattle.std.specs.Prelude.{◌≡◌, ◌<◌, ◌≤◌, true, length, IfSome};
@@ -8,15 +8,23 @@ ghost use Rattle.phase_state.specs.Sums.{IsPhasePlan};
 use definitions::Sequence;
 use field64::Fe;
 use idpf_eval::{LevelWord, Node, Share, eval_uncounted};
+use idpf_gen::gen_;
 use phase_state::{Kind, PhasePlan};
 use prefix_bits::{Prefix, ReportId, Side};
+use report_batch::batch_of;
 use seed_expand::Seed;
 use sketch_check::{CoinKey, Sums};
 use std::alloc::{AllocError, Global};
 use tile_claims::TilePlan;
 
-/// The seed of the check's coins in each trial.
+/// The seed of the check's coins in the trials of shares that are made of one byte each.
 const VERIFY: Seed = Seed([7; 32]);
+
+/// The seed that the strings' reports are made of.
+const MASTER: Seed = Seed([
+    0, 1, 2, 3, 4, 5, 6, 7, 8, 9, 10, 11, 12, 13, 14, 15, 16, 17, 18, 19, 20, 21, 22, 23, 24, 25,
+    26, 27, 28, 29, 30, 31,
+]);
 
 /// How a trial is cut into tiles.
 #[derive(Clone, Copy, Debug, PartialEq, Eq)]
@@ -29,10 +37,11 @@ pub enum Cut {
     Large,
 }
 
-/// Shares, their places, and the candidates of a level.
+/// Shares, their places, the candidates of a level, and the seed of the check's coins.
 #[derive(Drop)]
 pub struct Trial {
     pub level: u16,
+    pub verify: Seed,
     pub shares: Vec<Share>,
     pub live: Vec<u32>,
     pub candidates: Vec<Prefix>,
@@ -69,6 +78,7 @@ impl Trial {
     pub fn new(alloc: Global, reports: u8, candidates: u8) -> Result<Trial, AllocError> {
         let mut trial = Trial {
             level: 3,
+            verify: VERIFY,
             shares: Vec::new(alloc),
             live: Vec::new(alloc),
             candidates: Vec::new(alloc),
@@ -87,12 +97,39 @@ impl Trial {
     pub fn at_the_first_level(alloc: Global) -> Result<Trial, AllocError> {
         let mut trial = Trial {
             level: 1,
+            verify: VERIFY,
             shares: Vec::new(alloc),
             live: Vec::new(alloc),
             candidates: Vec::new(alloc),
         };
         trial.shares.push(share_of(alloc, 0)?)?;
         trial.live.push(0)?;
+        trial.candidates.push(Prefix::empty().child(false))?;
+        trial.candidates.push(Prefix::empty().child(true))?;
+        Ok(trial)
+    }
+
+    /// A side's shares of the batch of the reports that key generation makes of the strings `ab`, `ab` and `ac`, all live, and
+    /// both candidates of level 1. The check's coins are those of the zero seed.
+    pub fn of_three_strings(alloc: Global, side: Side) -> Result<Trial, AllocError> {
+        let (mut zero, mut one) = (Vec::new(alloc), Vec::new(alloc));
+        for (line, last) in [(0, b'b'), (1, b'b'), (2, b'c')] {
+            let alpha = Prefix::of_bytes(&[b'a', last]);
+            let (share0, share1) = gen_(alloc, &MASTER, line, 0, &alpha)?;
+            zero.push(share0)?;
+            one.push(share1)?;
+        }
+        let batch = batch_of(alloc, zero, one)?;
+        let mut trial = Trial {
+            level: 1,
+            verify: Seed([0; 32]),
+            shares: Vec::new(alloc),
+            live: Vec::from_array(alloc, [0, 1, 2])?,
+            candidates: Vec::new(alloc),
+        };
+        for share in batch.shares(side) {
+            trial.shares.push(share.copy(alloc)?)?;
+        }
         trial.candidates.push(Prefix::empty().child(false))?;
         trial.candidates.push(Prefix::empty().child(true))?;
         Ok(trial)
@@ -120,7 +157,7 @@ impl Trial {
 
     /// The sums of a share over all candidates, by a plain loop with the coins of their places.
     pub fn sums(&self, side: Side, share: &Share) -> Sums {
-        let key = CoinKey::of(&VERIFY, &share.id);
+        let key = CoinKey::of(&self.verify, &share.id);
         let mut sums = Sums::zero();
         for (place, candidate) in self.candidates.iter().enumerate() {
             if place < 8 && share.levels.as_slice().len() >= usize::from(candidate.len()) {
@@ -212,7 +249,7 @@ pub fn plan_of(trial: &Trial, side: Side, kind: Kind, cut: Cut) -> Option<PhaseP
         side,
         kind,
         level,
-        verify: VERIFY,
+        verify: trial.verify,
         shares,
         live,
         candidates,

@@ -1,7 +1,7 @@
 //! Whole commands over shelves that cut their reads in other ways than a piece is long.
 //! Records of width 1 have 600 bytes, so that reads of 600 and 1200 end exactly where a record does.
 
-ghost use Rattle.std.specs.Prelude.{◌≡◌};
+mod stated;
 
 use outside_forms::{BitingShelf, HollowShelf};
 use poplar_top::{eval_file, gen_files, poplar};
