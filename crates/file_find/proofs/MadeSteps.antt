@@ -4,7 +4,7 @@ use Rattle.std.specs.List.{All}
 use Rattle.definitions.specs.Evaluation.{Share}
 use Rattle.walk_definitions.specs.Reports.{batch}
 use Rattle.text_strings.specs.Lines.{most_strings}
-use Rattle.pair_files.specs.Made.{made_zero, made_one}
+use Rattle.idpf_gen.specs.Made.{made_zero, made_one}
 use Rattle.pair_files.specs.declared.pair_settings.PairSettings.{PairSettings}
 use Rattle.pair_shares.proofs.MadeLists.{levels_law}
 use Rattle.pair_shares.proofs.MadeBatch.{batch_law}

@@ -1,5 +1,6 @@
 -- What the writer of pairs cites.
-use Rattle.std.proofs.Common.{◌≡◌, ℕ, ◌+◌, ◌<◌, List, Bool, Option, length, take, get_or}
+use Rattle.std.proofs.Common.{◌≡◌, ℕ, ◌+◌, ◌<◌, List, [], Bool, Option, length, take, drop, get_or, subst, arith}
+use Rattle.std.proofs.lemmas.List.{get_or_default}
 use Rattle.std.specs.Prelude.{◌≢◌, Result, Ok, Err, OnErr}
 use Rattle.std.specs.Option.{option_map}
 use Rattle.definitions.specs.declared.Side.TheVariants.{Zero, One}
@@ -7,10 +8,11 @@ use Rattle.definitions.specs.Evaluation.{Share}
 use Rattle.shelf_io.specs.Files.{Files, with_more}
 use Rattle.share_format.specs.Spelling.{spelling}
 use Rattle.pair_files.specs.declared.pair_settings.PairSettings.{PairSettings}
-use Rattle.pair_files.specs.Made.{zero_share, one_share, zero_text, one_text}
+use Rattle.idpf_gen.specs.Made.{zero_share, one_share, made_zero, made_one}
+use Rattle.pair_files.specs.Made.{zero_text, one_text}
 use Rattle.pair_files.specs.PairFiles.{with_both, HoldFronts}
 use Rattle.pair_files.proofs.BothLaws.{first_grown, second_grown, both_hold_fronts}
-use Rattle.pair_files.proofs.MadeLaws.{text_front, text_more}
+use Rattle.pair_files.proofs.MadeLaws.{text_front, text_more, block_share, block_room}
 
 -- what holds holds at an error
 pub on_err : {T E P : Type 0} (r : Result T E) → P → OnErr r P
@@ -48,3 +50,26 @@ pub one_line_more : (before mid now : Option Files) (k l : List ℕ) (s : PairSe
 one_line_more before mid now k l s strings line string share p here is held e =
     second_grown before mid now k _ l (one_text s.width s.master s.tag (take line strings)) (spelling share) _
     (text_more One s.width (one_share s.master s.tag) strings line string share p here is) held e
+
+-- the same where the share stands at a place of a block of lines
+pub zero_block_more : (before mid now : Option Files) (k l : List ℕ) (s : PairSettings) (strings part : List (List Bool)) (line n place : ℕ)
+    (shares : List Share) (share : Share) → shares ≡ made_zero s.master s.tag line part → part ≡ take n (drop line strings) → k ≢ l
+    → place < length part → share ≡ get_or shares place share → HoldLines before mid k l s strings (line + place) (line + place)
+    → now ≡ option_map (with_more k (spelling share)) mid → HoldLines before now k l s strings (line + place + 1) (line + place)
+zero_block_more before mid now k l s strings part line n place shares share made cut apart q here held e =
+    let string : List Bool = get_or strings (line + place) [] in
+    let room = block_room strings part line n place cut q in
+    zero_line_more before mid now k l s strings (line + place) string share apart room (get_or_default strings (line + place) [] string room)
+    (block_share (zero_share s.master s.tag) strings part line n place shares share cut made q here) held e
+
+pub one_block_more : (before mid now : Option Files) (k l : List ℕ) (s : PairSettings) (strings part : List (List Bool)) (line n place : ℕ)
+    (shares : List Share) (share : Share) → shares ≡ made_one s.master s.tag line part → part ≡ take n (drop line strings)
+    → place < length part → share ≡ get_or shares place share → HoldLines before mid k l s strings (line + place + 1) (line + place)
+    → now ≡ option_map (with_more l (spelling share)) mid → HoldLines before now k l s strings (line + (place + 1)) (line + (place + 1))
+one_block_more before mid now k l s strings part line n place shares share made cut q here held e =
+    let string : List Bool = get_or strings (line + place) [] in
+    let room = block_room strings part line n place cut q in
+    let same : line + place + 1 ≡ line + (place + 1) = omega arith in
+    subst (λ m. HoldLines before now k l s strings m m) same
+    (one_line_more before mid now k l s strings (line + place) string share room (get_or_default strings (line + place) [] string room)
+    (block_share (one_share s.master s.tag) strings part line n place shares share cut made q here) held e)

@@ -1,29 +1,8 @@
--- The shares that are made of a list of strings, and the texts of the two files that hold them.
-use Rattle.std.specs.Prelude.{ℕ, ◌+◌, Bool, List, [], ◌∷◌, length}
+-- The texts of the two files that hold the shares that are made of a list of strings.
+use Rattle.std.specs.Prelude.{ℕ, Bool, List}
 use Rattle.definitions.specs.declared.Side.TheVariants.{Zero, One}
-use Rattle.definitions.specs.ReportIds.{report_id}
-use Rattle.definitions.specs.Evaluation.{Share}
-use Rattle.definitions.specs.Generation.{client_coins, share0, share1}
 use Rattle.share_format.specs.Laws.{file_of}
-
--- the two sides' shares of the string of a line: their id is the tag and the line, their coins are those of the line
-abbrev pub zero_share : List ℕ → ℕ → ℕ → List Bool → Share
-zero_share master tag line string = share0 (report_id tag line) string (client_coins master line (length string))
-
-abbrev pub one_share : List ℕ → ℕ → ℕ → List Bool → Share
-one_share master tag line string = share1 (report_id tag line) string (client_coins master line (length string))
-
--- the shares of strings on consecutive lines, from the line of the first on
-abbrev pub of_lines : (ℕ → List Bool → Share) → ℕ → List (List Bool) → List Share
-of_lines share_of line [] = []
-of_lines share_of line (string ∷ strings) = share_of line string ∷ of_lines share_of (line + 1) strings
-
--- side 0's shares of strings, the first of which stands on this line; and side 1's
-abbrev pub made_zero : List ℕ → ℕ → ℕ → List (List Bool) → List Share
-made_zero master tag line strings = of_lines (zero_share master tag) line strings
-
-abbrev pub made_one : List ℕ → ℕ → ℕ → List (List Bool) → List Share
-made_one master tag line strings = of_lines (one_share master tag) line strings
+use Rattle.idpf_gen.specs.Made.{made_zero, made_one}
 
 -- the files of the two sides, of strings whose lines are counted from 0: a header, and the record of each share in order
 abbrev pub zero_text : ℕ → List ℕ → ℕ → List (List Bool) → List ℕ

@@ -1,5 +1,5 @@
 //! Writing of both share files of a list of strings.
-//! The files grow together, a pair after another: each pair is made once, and none is kept.
+//! The files grow together, a pair after another. The pairs of a block of lines are made at once, and none is kept after its block.
 
 ghost use Rattle.std.specs.Prelude.{◌≡◌, ◌≢◌, ◌≤◌, ◌<◌, ◌*◌, ◌^◌, length, OnOk, OnErr};
 ghost use Rattle.std.specs.List.{All};
@@ -12,7 +12,7 @@ ghost use Rattle.pair_files.specs.PairFiles.{with_both, HoldFronts};
 
 use crate::pair_settings::PairSettings;
 use crate::records::append_record;
-use idpf_gen::gen_;
+use generation_lanes::{LINES, pair_lists_of};
 use prefix_bits::{Prefix, Side};
 use share_format::Header;
 use shelf_io::{Refused, Shelf};
@@ -51,7 +51,8 @@ fn write_headers<H: Shelf>(
 ///
 /// `Failed` comes only where the shelf's count of faults rose, `Memory` where memory is wanting. After either the shelf is
 /// as before, or `zero_name` alone holds a front of its file, or each of the two names holds a front of its own; all other
-/// names stay. Each record is appended as it is made, so that the memory in use does not grow with the number of strings.
+/// names stay. The pairs are made and appended a block of lines after another, so that the memory in use does not grow with the number
+/// of strings.
 pub fn write_pairs<H: Shelf>(
     alloc: Global,
     shelf: &mut H,
@@ -72,11 +73,24 @@ pub fn write_pairs<H: Shelf>(
     ensures cause { HasCause (H.faults shelf.old) (H.faults shelf.new) result }
 {
     write_headers(shelf, zero_name, one_name, settings.width)?;
+    let bits = 8 * u16::from(settings.width);
     let mut record = Vec::new(alloc);
-    for (line, string) in strings.iter().enumerate() {
-        let (zero, one) = gen_(alloc, &settings.master, line as u32, settings.tag, string)?;
-        append_record(shelf, zero_name, &zero, &mut record)?;
-        append_record(shelf, one_name, &one, &mut record)?;
+    let mut line = 0;
+    while line < strings.len() {
+        let end = strings.len().min(line + LINES);
+        let (zeros, ones) = pair_lists_of(
+            alloc,
+            &settings.master,
+            settings.tag,
+            line as u32,
+            &strings[line..end],
+            bits,
+        )?;
+        for place in 0..zeros.len() {
+            append_record(shelf, zero_name, &zeros[place], &mut record)?;
+            append_record(shelf, one_name, &ones[place], &mut record)?;
+        }
+        line = end;
     }
     Ok(())
 }

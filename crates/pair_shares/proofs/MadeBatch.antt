@@ -10,7 +10,7 @@ use Rattle.walk_definitions.specs.Reports.{Report, same_bytes, standing, joined}
 use Rattle.walk_definitions.specs.Laws.{IsAmong}
 use Rattle.walk_definitions.proofs.Order.{IsOrder, AllAbove, Rises, numbers_ordered, lists_ordered, rises-ascending, member-ascending, ascending-member, same_rise}
 use Rattle.walk_definitions.proofs.BatchLaws.{bytes-is, bytes-self, agreed-from, filter-among, among-filter, ids}
-use Rattle.pair_files.specs.Made.{zero_share, one_share, of_lines, made_zero, made_one}
+use Rattle.idpf_gen.specs.Made.{zero_share, one_share, of_lines, made_zero, made_one}
 use Rattle.pair_shares.specs.MadeReports.{made_report, reports_from, made_reports}
 use Rattle.pair_shares.specs.Laws.{BatchLaw}
 use Rattle.pair_shares.proofs.IdOrder.{lines_ascend}

@@ -1,30 +1,13 @@
--- The lists that are made: a share for each string, with as many levels as the string has bits, and the list up to a line.
-use Rattle.std.proofs.Common.{◌≡◌, ℕ, ◌+◌, ◌<◌, ◌++◌, Bool, List, [], ◌∷◌, length, take, get_or, refl, sym, ap, ◌∙◌, arith}
+-- The lists that are made: a share for each string, with as many levels as the string has bits.
+use Rattle.std.proofs.Common.{◌≡◌, ℕ, ◌+◌, Bool, List, [], ◌∷◌, length, ◌∙◌}
 use Rattle.std.specs.List.{All, AllByRecursion}
-use Rattle.std.proofs.lemmas.List.{take_more, length-take-le}
 use Rattle.std.proofs.lemmas.List.Elements.{All-from_recursion, recursion_from_All}
 use Rattle.definitions.specs.Evaluation.{Share}
 use Rattle.definitions.specs.Generation.{ClientCoins, client_coins, start, joint_correlation}
 use Rattle.idpf_gen.proofs.PairLaws.{length-words0, length-words1, length-client_coins}
-use Rattle.pair_files.specs.Made.{zero_share, one_share, of_lines}
-use Rattle.pair_files.proofs.MadeLaws.{of_lines-append}
+use Rattle.idpf_gen.proofs.LineLaws.{length-of_lines}
+use Rattle.idpf_gen.specs.Made.{zero_share, one_share, of_lines}
 use Rattle.pair_shares.specs.Laws.{LevelsLaw}
-
--- the list with the share of the next line
-pub one_more : (share_of : ℕ → List Bool → Share) (strings : List (List Bool)) (line : ℕ) (string : List Bool) (share : Share) (made : List Share)
-    → line < length strings → string ≡ get_or strings line string → share ≡ share_of line string → made ≡ of_lines share_of 0 (take line strings)
-    → made ++ share ∷ [] ≡ of_lines share_of 0 (take (line + 1) strings)
-one_more share_of strings line string share made p here is sofar =
-    let long = length-take-le line strings (omega arith) in
-    let count : 0 + length (take line strings) ≡ line = omega (arith, long) in
-    ap (λ shares. shares ++ share ∷ []) sofar
-    ∙ ap (λ s. of_lines share_of 0 (take line strings) ++ s ∷ []) (is ∙ ap (λ n. share_of n string) (sym count))
-    ∙ sym (of_lines-append share_of 0 (take line strings) (string ∷ []))
-    ∙ ap (of_lines share_of 0) (ap (λ s. take line strings ++ s ∷ []) here ∙ sym (take_more strings line string p))
-
-length-of_lines : (share_of : ℕ → List Bool → Share) (line : ℕ) (strings : List (List Bool)) → length (of_lines share_of line strings) ≡ length strings
-length-of_lines share_of line [] = refl
-length-of_lines share_of line (s ∷ ss) = let rest = length-of_lines share_of (line + 1) ss in omega arith
 
 module _ (share_of : ℕ → List Bool → Share) (whole : (line : ℕ) (s : List Bool) → length (share_of line s).levels ≡ length s) (bits : ℕ) where
   levels_of : (line : ℕ) (strings : List (List Bool)) → AllByRecursion (λ s. length s ≡ bits) strings

@@ -7,7 +7,7 @@ use Rattle.walk_definitions.specs.Walk.{Settings, Heavy, done, capped, ending, w
 use Rattle.walk_definitions.specs.Heavy.{heavy}
 use Rattle.walk_definitions.specs.Laws.{AreGenerated}
 use Rattle.walk_laws.specs.LastLevel.{IsLast, EndsOnce}
-use Rattle.pair_files.specs.Made.{made_zero, made_one}
+use Rattle.idpf_gen.specs.Made.{made_zero, made_one}
 use Rattle.pair_shares.specs.MadeReports.{made_reports}
 
 -- a share for each string, with as many levels as the string has bits

@@ -2,7 +2,7 @@
 use Rattle.std.specs.Prelude.{ℕ, ◌+◌, Bool, List, [], ◌∷◌}
 use Rattle.definitions.specs.ReportIds.{report_id}
 use Rattle.walk_definitions.specs.Reports.{Report}
-use Rattle.pair_files.specs.Made.{zero_share, one_share}
+use Rattle.idpf_gen.specs.Made.{zero_share, one_share}
 
 -- the report of the string of a line: the tag and the line, and both sides' shares
 abbrev pub made_report : List ℕ → ℕ → ℕ → List Bool → Report

@@ -1,12 +1,12 @@
 //! The two lists of shares of a list of strings.
-//! They grow together, a pair after another, as the two share files do in `pair_files`.
+//! They are made level by level over many lines at once, by `generation_lanes`.
 
 ghost use Rattle.std.specs.Prelude.{◌≡◌, ◌≤◌, ◌<◌, ◌*◌, ◌^◌, length, IfOk};
 ghost use Rattle.std.specs.List.{All};
-ghost use Rattle.pair_files.specs.Made.{made_zero, made_one};
+ghost use Rattle.idpf_gen.specs.Made.{made_zero, made_one};
 
+use generation_lanes::pair_lists_of;
 use idpf_eval::Share;
-use idpf_gen::gen_;
 use pair_files::PairSettings;
 use prefix_bits::Prefix;
 use std::alloc::{AllocError, Global};
@@ -26,12 +26,6 @@ pub fn pair_lists(
     ensures zero { IfOk result (λ lists. lists.0.items ≡ made_zero settings.now.master settings.now.tag 0 strings.now) }
     ensures one { IfOk result (λ lists. lists.1.items ≡ made_one settings.now.master settings.now.tag 0 strings.now) }
 {
-    let mut zeros = Vec::with_capacity(alloc, strings.len())?;
-    let mut ones = Vec::with_capacity(alloc, strings.len())?;
-    for (line, string) in strings.iter().enumerate() {
-        let (zero, one) = gen_(alloc, &settings.master, line as u32, settings.tag, string)?;
-        zeros.push(zero)?;
-        ones.push(one)?;
-    }
-    Ok((zeros, ones))
+    let bits = 8 * u16::from(settings.width);
+    pair_lists_of(alloc, &settings.master, settings.tag, 0, strings, bits)
 }

@@ -1,9 +1,9 @@
-//! Seeds of all lengths up to two groups and one, expanded and converted side by side and one by one.
+//! Seeds of all lengths up to two groups and one, expanded, converted and read side by side and one by one.
 
 ghost use Rattle.std.specs.Prelude.{◌≡◌, ◌<◌, length};
 
-use seed_expand::{Children, Converted, Seed, Steps, convert, extend};
-use seed_lanes::{convert_many, extend_many};
+use seed_expand::{Children, Converted, Seed, Steps, convert, extend, number_at};
+use seed_lanes::{Numbers, convert_many, extend_many, numbers_many};
 use std::alloc::{AllocError, Global};
 use std::marker::Brand;
 use std::sync::ledger::{Blank, Ledger};
@@ -65,11 +65,31 @@ fn converts(alloc: Global, count: u8) -> Result<bool, AllocError> {
     )
 }
 
+/// Whether the numbers of so many seeds read side by side are those one by one.
+fn reads(alloc: Global, count: u8) -> Result<bool, AllocError> {
+    let seeds = seeds_of(alloc, count)?;
+    let none = Numbers {
+        first: 0,
+        second: 0,
+        third: 0,
+    };
+    let mut made = vec![in alloc; none; seeds.len()]?;
+    numbers_many(&seeds, 258, &mut made);
+    Ok(
+        seeds.iter().zip(made.iter()).all(|(seed, numbers)| {
+            numbers.first == number_at(seed, 258, 0)
+                && numbers.second == number_at(seed, 258, 4)
+                && numbers.third == number_at(seed, 258, 8)
+        }),
+    )
+}
+
 #[test]
 fn seeds_side_by_side_are_those_one_by_one(rt: HostRuntime) -> Result<(), AllocError> {
     for count in [0, 1, 2, 3, 4, 5, 6, 7, 8, 9, 17] {
         assert!(rt; expands(rt.alloc(), count)?, "{count}");
         assert!(rt; converts(rt.alloc(), count)?, "{count}");
+        assert!(rt; reads(rt.alloc(), count)?, "{count}");
     }
     Ok(())
 }

@@ -1,16 +1,19 @@
 //! Values of generated pairs along the string and off it, the check at each level, and coins beside the plain words.
-//! One pair has equal root seeds on both sides.
+//! One pair has equal root seeds on both sides. Lists of lines are made together and one by one.
 
 ghost use Rattle.std.specs.Prelude.{◌≡◌, ◌≤◌, ◌%◌, ◌^◌, ◌<◌, IfOk, length};
 
 use definitions::{Sequence, plain_field, plain_words};
 use field64::Fe;
+use generation_lanes::pair_lists_of;
 use idpf_eval::{Share, eval_uncounted};
 use idpf_gen::{ClientCoins, LevelCoins, coins_of, gen_, pair_of};
 use prefix_bits::{MOST_BITS, Prefix, ReportId, Side};
 use seed_expand::Seed;
 use sketch_check::{CoinKey, Sums, correlation, masked, open, sigma};
 use std::alloc::{AllocError, Global};
+use text_strings::LinesError;
+use workload::workload;
 
 // Coins of 8 levels with one root seed on both sides.
 fn equal_roots(alloc: Global) -> Result<ClientCoins, AllocError>
@@ -132,5 +135,46 @@ fn a_line_has_its_id_and_coins(rt: HostRuntime) -> Result<(), AllocError> {
     assert!(rt; one == second);
     assert_eq!(rt; added(&zero, &one, &string).0, 1);
     assert_eq!(rt; added(&zero, &one, &Prefix::of_bytes(b"ac")), (0, 0));
+    Ok(())
+}
+
+// Whether a share stands there.
+fn stands(found: Option<&Share>, share: &Share) -> bool {
+    match found {
+        Some(found) => found == share,
+        None => false,
+    }
+}
+
+// How many of so many lines have the same shares on both sides, made together and one by one.
+fn same_both_ways(alloc: Global, count: u32, width: u8) -> Result<u32, LinesError>
+    requires count { count < 100 }
+    requires width { (1 ≤ width) × (width ≤ 4) }
+{
+    let master = Seed([6; 32]);
+    let strings = workload(alloc, count, width)?;
+    let bits = 8 * u16::from(width);
+    let (zeros, ones) = pair_lists_of(alloc, &master, 258, 3, &strings, bits)?;
+    let mut same: u32 = 0;
+    for (place, string) in strings.iter().enumerate() {
+        let (zero, one) = gen_(alloc, &master, 3 + place as u32, 258, string)?;
+        if stands(zeros.get(place), &zero) && stands(ones.get(place), &one) {
+            same = same.saturating_add(1);
+        }
+    }
+    Ok(same)
+}
+
+#[test]
+fn lines_made_together_are_those_made_one_by_one(rt: HostRuntime) -> Result<(), LinesError> {
+    assert_eq!(rt; same_both_ways(rt.alloc(), 0, 1)?, 0);
+    assert_eq!(rt; same_both_ways(rt.alloc(), 1, 1)?, 1);
+    assert_eq!(rt; same_both_ways(rt.alloc(), 7, 1)?, 7);
+    assert_eq!(rt; same_both_ways(rt.alloc(), 64, 1)?, 64);
+    assert_eq!(rt; same_both_ways(rt.alloc(), 65, 1)?, 65);
+    assert_eq!(rt; same_both_ways(rt.alloc(), 1, 4)?, 1);
+    assert_eq!(rt; same_both_ways(rt.alloc(), 7, 4)?, 7);
+    assert_eq!(rt; same_both_ways(rt.alloc(), 64, 4)?, 64);
+    assert_eq!(rt; same_both_ways(rt.alloc(), 65, 4)?, 65);
     Ok(())
 }
