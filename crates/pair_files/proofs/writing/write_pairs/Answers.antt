@@ -44,7 +44,7 @@ loop-place-preserved g c =
     c.loop-place.invariant.held c.in_ok-append_record.ensures.appended in
     record {
       held = one_block_more _ _ _ c.args.zero_name.now c.args.one_name.now c.args.settings.now c.args.strings.now _ c.loop-line.line _ c.loop-place.place
-          c.in_ok-zeros.ones.items _ c.in_ok-zeros.ensures.ones refl (omega (arith, c.in_ok-zeros.ensures.counts)) c.index-2.ensures
+          c.in_ok-zeros.ones.items _ c.in_ok-zeros.ensures.ones refl (omega (arith, c.in_ok-zeros.ensures.counts)) c.index-in-loop-place.ensures
           grown c.in_ok-append_record-2.ensures.appended;
       count = omega (arith, c.loop-place.invariant.count, c.in_ok-append_record.ensures.cause.later, c.in_ok-append_record-2.ensures.cause.later);
     }
