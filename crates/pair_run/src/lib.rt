@@ -12,7 +12,6 @@ mod comparison;
 mod exchange;
 mod kind;
 mod level;
-mod level_nodes;
 mod opening;
 mod own_sigmas;
 mod places;
