@@ -52,7 +52,8 @@ fn reach(level: u16, shares: &[Share]) -> bool
     ensures { IsTrue result → All (λ s. level ≤ length s.levels) shares.now }
 {
     for k in 0..shares.len() {
-        if shares[k].levels.len() < usize::from(level) {
+        let share = &shares[k];
+        if share.levels.len() < usize::from(level) {
             return false;
         }
     }
@@ -127,7 +128,7 @@ fn the_nodes_of_the_live_reports_are_kept(rt: HostRuntime) -> Result<(), Fail> {
     assert!(rt; has(&kept, 2, &second));
     assert!(rt; kept.node(1, &first).is_none());
     assert!(rt; kept.node(0, &prefix_of(1, 2)).is_none());
-    assert!(rt; kept.node(0, &candidates[0]).is_none());
+    assert!(rt; kept.node(0, &first.child(false)).is_none());
     assert!(rt; kept.node(0, &prefix_of(0, 1)).is_none());
     Ok(())
 }
