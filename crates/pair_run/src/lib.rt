@@ -12,6 +12,7 @@ mod comparison;
 mod exchange;
 mod kind;
 mod level;
+mod level_nodes;
 mod opening;
 mod own_sigmas;
 mod places;

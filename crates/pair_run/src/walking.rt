@@ -18,6 +18,7 @@ ghost use Rattle.pair_run.specs.Talking.{Passed};
 ghost use Rattle.pair_run.specs.Walks.{IsStage, EndsSo, TrulyEnds};
 
 use crate::answers::{Answer, PairError};
+use crate::level_nodes::keep_nodes;
 use crate::places::all_places;
 use crate::settings::WalkSettings;
 use crate::step::{Step, walk_step};
@@ -34,7 +35,8 @@ use std::thread::Threads;
 /// Walks the batch over the link: at each level both sides send, take, open, check and add. A side's sums and totals are made
 /// by a crew of `workers` threads, both sides' at once, in tiles of `by_reports` by `by_candidates`; each claimed tile is asked
 /// of the gate behind the drill, and what the workers leave out is swept. Each side has one cache of evaluated nodes for the whole
-/// walk, of sixteen shards with `cache` nodes each. All else is done by the caller's thread. The promise depends on none of
+/// walk, of sixteen shards with `cache` nodes each; where a level is more than that, the nodes that the next one begins with are kept
+/// beside it. All else is done by the caller's thread. The promise depends on none of
 /// these. It waits.
 ///
 /// The answer has the strings that at least the threshold of reports hold, ascending, with their counts. The promise is
@@ -62,10 +64,19 @@ pub fn walk<R: Threads + Wait + Sync, K: Link, G: Gate>(
     let live = all_places(alloc, batch.len() as u32)?;
     let frontier = Frontier::first(alloc, settings.bits, settings.cap)?;
     let (zero, one) = (batch.shares(Side::Zero), batch.shares(Side::One));
-    let (caches, mut hold) = Caches::new(alloc, zero, one, settings.cache, settings.workers)?;
+    let (mut caches, mut hold) = Caches::new(alloc, zero, one, settings.cache, settings.workers)?;
     let gate = drill(settings, gate);
     walk_from(
-        rt, alloc, link, settings, batch, &caches, &mut hold, frontier, live, &gate,
+        rt,
+        alloc,
+        link,
+        settings,
+        batch,
+        &mut caches,
+        &mut hold,
+        frontier,
+        live,
+        &gate,
     )
 }
 
@@ -87,7 +98,7 @@ fn walk_from<'s, R: Threads + Wait + Sync, K: Link, G: Gate>(
     link: &mut K,
     settings: &WalkSettings,
     batch: &Batch,
-    caches: &Caches<'s>,
+    caches: &mut Caches<'s>,
     hold: &mut CacheHold<'s>,
     frontier: Frontier,
     live: Vec<u32>,
@@ -101,7 +112,7 @@ fn walk_from<'s, R: Threads + Wait + Sync, K: Link, G: Gate>(
     requires few { length batch.now < 2 ^ 27 }
     requires places { All (λ k. k < length batch.now) live.items }
     requires within { length live.items ≤ length batch.now }
-    requires caches { HasCaches batch.now settings.now.workers caches.now hold.old }
+    requires caches { HasCaches batch.now settings.now.workers caches.old hold.old }
     ensures answer { IfOk result (IsAnswer frontier batch.now) }
     ensures heard { IfSome (end_reached result) (λ end. Passed (K.talk link.old) (K.talk link.new)
         (EndsSo (rules_of settings.now) frontier (picked batch.now live.items) end)) }
@@ -115,6 +126,7 @@ fn walk_from<'s, R: Threads + Wait + Sync, K: Link, G: Gate>(
     )? {
         Step::Done(answer) => Ok(answer),
         Step::Further(next, passed) => {
+            keep_nodes(alloc, settings, batch, &next, &passed, caches, hold);
             walk_from(
                 rt, alloc, link, settings, batch, caches, hold, next, passed, gate,
             )
