@@ -15,6 +15,7 @@ use prefix_bits::{Prefix, Side};
 use std::alloc::{AllocError, Global};
 use std::marker::Model;
 use std::sync::Wait;
+use std::thread::Threads;
 
 /// Evaluated nodes of one side's shares, to be shared by `&`. The nodes of report n are in the shard n modulo the number of shards.
 #[derive(Drop)]
@@ -122,23 +123,27 @@ impl<'a> EvalCache<'a> {
     }
 
     /// The nodes to keep for a level with these candidates and live reports, as [`KeptNodes::next`] makes them from those that are kept
-    /// now: none where the shards have room for all.
-    pub fn kept_for(
+    /// now, by so many threads: none where the shards have room for all.
+    pub fn kept_for<R: Threads + Wait + Sync>(
         &self,
+        rt: &R,
         alloc: Global,
         level: u16,
         candidates: &[Prefix],
         live: &[u32],
+        threads: u32,
     ) -> KeptNodes<'a>
         requires second { 2 ≤ level }
         requires bits { All (λ q. length q ≡ level) candidates.now }
         requires live { All (λ i. i < length self.now.shares) live.now }
         requires levels { All (λ s. level ≤ length s.levels) self.now.shares }
+        requires threads { 1 ≤ threads }
         ensures side { result.side ≡ self.now.side }
         ensures shares { result.shares ≡ self.now.shares }
     {
         let entries = u64::from(self.most).saturating_mul(self.row.len() as u64);
-        self.kept.next(alloc, level, candidates, live, entries)
+        self.kept
+            .next(rt, alloc, level, candidates, live, entries, threads)
     }
 
     /// Keeps these nodes beside the shards in the place of those before. Nothing else is changed.

@@ -5,7 +5,7 @@ use Rattle.std.proofs.Math.Nat.{add-mul}
 use Rattle.definitions.specs.declared.Side.{Side}
 use Rattle.definitions.specs.Evaluation.{Share, Node, node}
 use Rattle.node_growth.specs.Steps.{no_node}
-use Rattle.kept_nodes.specs.Kept.{share_at, node_at, report_nodes, nodes_of, KeptSeen}
+use Rattle.kept_nodes.specs.Kept.{share_at, node_at, report_nodes, nodes_of, PartSeen}
 
 -- one row more
 more_rows : (count width : ℕ) → suc count * width ≡ width + count * width
@@ -75,15 +75,20 @@ module _ (shares : List Share) (side : Side) (prefixes : List (List Bool)) where
       ∙ ap (λ (ns : List Node). first ++ ns) (sym (nodes_more (take i live) (get_or live i 0 ∷ [])))
       ∙ ap (λ (rs : List ℕ). first ++ nodes_of shares side prefixes rs) (sym (take_more live i 0 below))
 
+-- at no prefix reports have no node
+pub no_prefixes : (shares : List Share) (side : Side) (reports : List ℕ) → nodes_of shares side [] reports ≡ []
+no_prefixes shares side [] = refl
+no_prefixes shares side (report ∷ reports) = no_prefixes shares side reports
+
 -- the node of a row and a place of what is kept stands in its list
-module _ (kept : KeptSeen) (shares : List Share) (side : Side) (places : List ℕ) (prefixes : List (List Bool)) (nodes : List Node) (row place width : ℕ)
+module _ (kept : PartSeen) (shares : List Share) (side : Side) (places : List ℕ) (prefixes : List (List Bool)) (nodes : List Node) (row place width : ℕ)
     (same : width ≡ length prefixes) (is : record { shares = shares; side = side; places = places; prefixes = prefixes } ≡ kept)
     (made : nodes ≡ nodes_of shares side prefixes places) (h : row < length kept.places) (q : place < length kept.prefixes) where
   in_rows : row < length places
-  in_rows = omega (arith, h, ap (λ (k : KeptSeen). length k.places) is)
+  in_rows = omega (arith, h, ap (λ (k : PartSeen). length k.places) is)
 
   in_row : place < length prefixes
-  in_row = omega (arith, q, ap (λ (k : KeptSeen). length k.prefixes) is)
+  in_row = omega (arith, q, ap (λ (k : PartSeen). length k.prefixes) is)
 
   pub kept_within : row * width + place < length nodes
   kept_within = rw same (omega (arith, ap length made, nodes_count shares side prefixes places, row_within (length places) (length prefixes) row place in_rows in_row))
@@ -93,4 +98,4 @@ module _ (kept : KeptSeen) (shares : List Share) (side : Side) (places : List �
       ap (λ (w : ℕ). slice_index_or nodes (row * w + place) no_node) same
       ∙ ap (λ (ns : List Node). slice_index_or ns (row * length prefixes + place) no_node) made
       ∙ row_node shares side prefixes places row place in_rows in_row
-      ∙ ap (λ (k : KeptSeen). node_at k.shares k.side (slice_index k.places row) (slice_index_or k.prefixes place [])) is
+      ∙ ap (λ (k : PartSeen). node_at k.shares k.side (slice_index k.places row) (slice_index_or k.prefixes place [])) is

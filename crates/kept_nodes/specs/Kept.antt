@@ -21,8 +21,13 @@ abbrev pub nodes_of : List Share → Side → List (List Bool) → List ℕ → 
 nodes_of shares side prefixes [] = []
 nodes_of shares side prefixes (report ∷ reports) = report_nodes shares side prefixes report ++ nodes_of shares side prefixes reports
 
--- a side's shares, the places of the reports of which nodes are kept, and the prefixes at which they are
+-- a side and its shares, of which nodes are kept
 pub record KeptSeen : Type 0 where
+  pub shares : List Share
+  pub side : Side
+
+-- one part of them: the places of the reports of which nodes are kept, and the prefixes at which they are
+pub record PartSeen : Type 0 where
   pub shares : List Share
   pub side : Side
   pub places : List ℕ

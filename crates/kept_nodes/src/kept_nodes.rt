@@ -1,92 +1,58 @@
-//! Nodes of one side's shares that are kept: one list, report by report, prefix by prefix.
+//! Nodes of one side's shares that are kept, in parts that were made at once.
 //! A look-up gives the node that the evaluation from the root gives.
 
-ghost use Rattle.std.specs.Prelude.{◌≡◌, ◌+◌, ◌*◌, ◌<◌, [], length, slice_index, slice_index_or, IfSome};
-ghost use Rattle.node_growth.specs.Steps.{no_node};
+ghost use Rattle.std.specs.Prelude.{◌≡◌, length, IfSome};
 ghost use Rattle.idpf_lanes.specs.Stands.{AreFound};
-ghost use Rattle.kept_nodes.specs.Kept.{share_at, node_at, nodes_of};
+ghost use Rattle.kept_nodes.specs.Kept.{share_at, node_at};
+ghost use Rattle.kept_nodes.specs.Parts.{AreParts};
 
+use crate::part::KeptPart;
 use idpf_eval::{Node, Share};
 use prefix_bits::{Prefix, Side};
 use std::alloc::Global;
 use std::marker::Model;
 
-/// The nodes of some reports of one side, each at the same prefixes. Contracts see the side, its shares, the places of the
-/// reports among them, and the prefixes.
+/// Nodes of reports of one side, each at the same prefixes. Those of a report are in the part whose number is the report's place
+/// modulo the number of parts. Contracts see the side and its shares.
 #[derive(Drop)]
 pub struct KeptNodes<'a> {
     shares: &'a [Share],
     side: Side,
-    places: Vec<u32>,
-    prefixes: Vec<Prefix>,
-    nodes: Vec<Node>,
+    parts: Vec<KeptPart<'a>>,
 }
 
 impl<'a> Model for KeptNodes<'a> {
-    ghost use Rattle.std.specs.Prelude.{◌≡◌};
-    ghost use Rattle.kept_nodes.specs.Kept.{nodes_of, KeptSeen};
+    ghost use Rattle.kept_nodes.specs.Kept.{KeptSeen};
+    ghost use Rattle.kept_nodes.specs.Parts.{AreParts};
 
     ghost Value = { KeptSeen };
 
-    ghost view = { λ k. record { shares = k.shares.now; side = k.side; places = k.places.items; prefixes = k.prefixes.items } };
+    ghost view = { λ k. record { shares = k.shares.now; side = k.side } };
 
-    ghost invariant = { λ k. k.nodes.items ≡ nodes_of k.shares.now k.side k.prefixes.items k.places.items };
-}
-
-/// The place of a prefix among others, looked for first at `guess`, and then by halves. Where they ascend, a prefix that is
-/// there is found.
-fn place_among(prefixes: &[Prefix], prefix: &Prefix, guess: usize) -> Option<usize>
-    ensures within { IfSome result (λ k. k < length prefixes.now) }
-    ensures there { IfSome result (λ k. slice_index_or prefixes.now k [] ≡ prefix.now) }
-{
-    if guess < prefixes.len() && prefixes[guess] == *prefix {
-        return Some(guess);
-    }
-    match prefixes.binary_search(prefix) {
-        Ok(place) => Some(place),
-        Err(_) => None,
-    }
-}
-
-/// The node at a place of a row, in a list of rows of that width.
-fn node_in(nodes: &[Node], width: usize, row: usize, place: usize) -> Node
-    requires { row * width + place < length nodes.now }
-    ensures { result ≡ slice_index_or nodes.now (row * width + place) no_node }
-{
-    nodes[row * width + place]
+    ghost invariant = { λ k. AreParts k.shares.now k.side k.parts.items };
 }
 
 impl<'a> KeptNodes<'a> {
     /// Of this side and these shares, but of no report. It takes no memory.
     pub fn none(alloc: Global, shares: &'a [Share], side: Side) -> KeptNodes<'a>
-        ensures { result ≡ record { shares = shares.entry.now; side = side; places = []; prefixes = [] } }
+        ensures { result ≡ record { shares = shares.entry.now; side = side } }
     {
         KeptNodes {
             shares,
             side,
-            places: Vec::new(alloc),
-            prefixes: Vec::new(alloc),
-            nodes: Vec::new(alloc),
+            parts: Vec::new(alloc),
         }
     }
 
-    /// These nodes of a side: of the reports at these places, report by report, at these prefixes.
-    pub(crate) fn of(
-        shares: &'a [Share],
-        side: Side,
-        places: Vec<u32>,
-        prefixes: Vec<Prefix>,
-        nodes: Vec<Node>,
-    ) -> KeptNodes<'a>
-        requires nodes { nodes.items ≡ nodes_of shares.now side prefixes.items places.items }
-        ensures { result ≡ record { shares = shares.entry.now; side = side; places = places.items; prefixes = prefixes.items } }
+    /// Of these parts.
+    pub(crate) fn of(shares: &'a [Share], side: Side, parts: Vec<KeptPart<'a>>) -> KeptNodes<'a>
+        requires parts { AreParts shares.now side parts.items }
+        ensures { result ≡ record { shares = shares.entry.now; side = side } }
     {
         KeptNodes {
             shares,
             side,
-            places,
-            prefixes,
-            nodes,
+            parts,
         }
     }
 
@@ -104,63 +70,24 @@ impl<'a> KeptNodes<'a> {
         self.shares
     }
 
-    /// The place here of a report, looked for by halves.
-    fn row_of(&self, report: u32) -> Option<usize>
-        ensures within { IfSome result (λ row. row < length self.now.places) }
-        ensures there { IfSome result (λ row. slice_index self.now.places row ≡ report) }
+    /// The part in which a report's nodes are, where there is one.
+    fn part_of(&self, report: u32) -> Option<&KeptPart<'a>>
+        ensures side { IfSome result (λ part. part.now.side ≡ self.now.side) }
+        ensures shares { IfSome result (λ part. part.now.shares ≡ self.now.shares) }
     {
-        self.places.binary_search(&report).ok()
-    }
-
-    /// The place here of a prefix, looked for first at `guess`.
-    fn place_of(&self, prefix: &Prefix, guess: usize) -> Option<usize>
-        ensures within { IfSome result (λ k. k < length self.now.prefixes) }
-        ensures there { IfSome result (λ k. slice_index_or self.now.prefixes k [] ≡ prefix.now) }
-    {
-        place_among(self.prefixes.as_slice(), prefix, guess)
-    }
-
-    /// The node of the report and the prefix that stand at these places here.
-    fn at(&self, row: usize, place: usize) -> Node
-        requires row { row < length self.now.places }
-        requires place { place < length self.now.prefixes }
-        ensures { result ≡ node_at self.now.shares self.now.side (slice_index self.now.places row) (slice_index_or self.now.prefixes place []) }
-    {
-        node_in(self.nodes.as_slice(), self.prefixes.len(), row, place)
-    }
-
-    /// The node of a report that was found, or else the one that is kept at the prefix. At which place to look first for the next
-    /// prefix comes second.
-    fn found_or_kept(
-        &self,
-        row: usize,
-        report: u32,
-        prefix: &Prefix,
-        guess: usize,
-        found: Option<Node>,
-    ) -> (Option<Node>, usize)
-        requires row { row < length self.now.places }
-        requires there { slice_index self.now.places row ≡ report }
-        requires found { IfSome found (λ n. n ≡ node_at self.now.shares self.now.side report prefix.now) }
-        ensures { IfSome result.0 (λ n. n ≡ node_at self.now.shares self.now.side report prefix.now) }
-    {
-        if found.is_some() {
-            return (found, guess);
+        let count = self.parts.len();
+        if count == 0 {
+            return None;
         }
-        match self.place_of(prefix, guess) {
-            Some(place) => (Some(self.at(row, place)), place.saturating_add(1)),
-            None => (None, guess),
-        }
+        Some(&self.parts[report as usize % count])
     }
 
     /// The node of a report at a prefix, where it is kept. It takes no memory.
     pub fn node(&self, report: u32, prefix: &Prefix) -> Option<Node>
         ensures { IfSome result (λ n. n ≡ node_at self.now.shares self.now.side report prefix.now) }
     {
-        let Some(row) = self.row_of(report) else {
-            return None;
-        };
-        self.found_or_kept(row, report, prefix, 0, None).0
+        let part = self.part_of(report)?;
+        part.node(report, prefix)
     }
 
     /// Puts the nodes of a report that are kept at those places of `found` that have none. It takes no memory.
@@ -170,14 +97,9 @@ impl<'a> KeptNodes<'a> {
         ensures same { length found.new ≡ length prefixes.now }
         ensures found { AreFound (share_at self.now.shares report) self.now.side prefixes.now found.new }
     {
-        let Some(row) = self.row_of(report) else {
+        let Some(part) = self.part_of(report) else {
             return;
         };
-        let mut guess = 0;
-        for k in 0..prefixes.len() {
-            let (node, next) = self.found_or_kept(row, report, &prefixes[k], guess, found[k]);
-            found[k] = node;
-            guess = next;
-        }
+        part.put_kept(report, prefixes, found);
     }
 }

@@ -1,10 +1,12 @@
 //! The nodes that a level's next one begins with: of each live report, at each prefix that is left.
-//! They are written once and then only read, so that no one waits for them.
+//! They are made by many threads, each its own part, and then only read, so that no one waits for them.
 #![tactic(auto)]
 
 mod kept_nodes;
 mod line;
+mod making;
 mod next_level;
+mod part;
 mod rows;
 
 pub use crate::kept_nodes::KeptNodes;

@@ -3,7 +3,9 @@
 
 ghost use Rattle.std.specs.Prelude.{◌≡◌, ◌<◌, length};
 ghost use Rattle.std.specs.List.{All};
+ghost use Rattle.prefix_bits.specs.declared.TheConstants.{MOST_BITS};
 ghost use Rattle.pair_run.specs.Levels.{HaveLevels};
+ghost use Rattle.pair_run.specs.Ranges.{AreInRange};
 ghost use Rattle.pair_run.specs.SideCaches.{HasCaches};
 
 use crate::settings::WalkSettings;
@@ -11,9 +13,13 @@ use frontier_walk::Frontier;
 use phase_sums::{CacheHold, Caches};
 use report_batch::Batch;
 use std::alloc::Global;
+use std::sync::Wait;
+use std::thread::Threads;
 
-/// Keeps beside the caches the nodes of the live reports that a frontier's level begins with. The caches stay those of the batch.
-pub fn keep_nodes<'s>(
+/// Keeps beside the caches the nodes of the live reports that a frontier's level begins with, each side's made by as many threads as
+/// it has workers. The caches stay those of the batch.
+pub fn keep_nodes<'s, R: Threads + Wait + Sync>(
+    rt: &R,
     alloc: Global,
     settings: &WalkSettings,
     batch: &Batch,
@@ -23,6 +29,7 @@ pub fn keep_nodes<'s>(
     hold: &CacheHold<'s>,
 )
     requires bits { frontier.now.bits ≡ settings.now.bits }
+    requires settings { AreInRange MOST_BITS settings.now }
     requires levels { HaveLevels settings.now.bits batch.now }
     requires places { All (λ k. k < length batch.now) live.now }
     requires caches { HasCaches batch.now settings.now.workers caches.old hold.now }
@@ -32,5 +39,6 @@ pub fn keep_nodes<'s>(
     if level < 2 {
         return;
     }
-    caches.keep(alloc, level, frontier.candidates(), live);
+    let candidates = frontier.candidates();
+    caches.keep(rt, alloc, level, candidates, live, settings.workers);
 }

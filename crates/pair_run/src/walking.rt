@@ -35,9 +35,9 @@ use std::thread::Threads;
 /// Walks the batch over the link: at each level both sides send, take, open, check and add. A side's sums and totals are made
 /// by a crew of `workers` threads, both sides' at once, in tiles of `by_reports` by `by_candidates`; each claimed tile is asked
 /// of the gate behind the drill, and what the workers leave out is swept. Each side has one cache of evaluated nodes for the whole
-/// walk, of sixteen shards with `cache` nodes each; where a level is more than that, the nodes that the next one begins with are kept
-/// beside it. All else is done by the caller's thread. The promise depends on none of
-/// these. It waits.
+/// walk, of sixteen shards with `cache` nodes each; where these are fewer than twice a level's nodes, the nodes that the next level
+/// begins with are kept beside it, and each side's are made by as many threads as it has workers. All else is done by the caller's
+/// thread. The promise depends on none of these. It waits.
 ///
 /// The answer has the strings that at least the threshold of reports hold, ascending, with their counts. The promise is
 /// `WalkKeeps`, between what the link told before and after. On every told link the answer, and each error but `Link` and
@@ -126,7 +126,7 @@ fn walk_from<'s, R: Threads + Wait + Sync, K: Link, G: Gate>(
     )? {
         Step::Done(answer) => Ok(answer),
         Step::Further(next, passed) => {
-            keep_nodes(alloc, settings, batch, &next, &passed, caches, hold);
+            keep_nodes(rt, alloc, settings, batch, &next, &passed, caches, hold);
             walk_from(
                 rt, alloc, link, settings, batch, caches, hold, next, passed, gate,
             )

@@ -11,6 +11,8 @@ use idpf_eval::Share;
 use prefix_bits::{Prefix, Side};
 use std::alloc::{AllocError, Global};
 use std::marker::Model;
+use std::sync::Wait;
+use std::thread::Threads;
 
 /// The shards of a side's cache.
 const SHARDS: u32 = 16;
@@ -87,20 +89,34 @@ impl<'s> Caches<'s> {
     }
 
     /// Keeps, beside each side's cache, the nodes that a level with these candidates begins with: of the live reports, at the fronts
-    /// of the candidates. They take the place of those that were kept for the level before, and are made from these. Side 0's
-    /// are made first. Nothing is kept where the shards have room for all, where it would be too much, or where there is no memory.
-    pub fn keep(&mut self, alloc: Global, level: u16, candidates: &[Prefix], live: &[u32])
+    /// of the candidates. They take the place of those that were kept for the level before, and are made from these: first side 0's
+    /// and then side 1's, each by so many threads at once. Nothing is kept where the shards have room for all, where it would be too
+    /// much, or where there is no memory. It waits for the threads.
+    pub fn keep<R: Threads + Wait + Sync>(
+        &mut self,
+        rt: &R,
+        alloc: Global,
+        level: u16,
+        candidates: &[Prefix],
+        live: &[u32],
+        threads: u32,
+    )
         requires second { 2 ≤ level }
         requires bits { All (λ q. length q ≡ level) candidates.now }
         requires live0 { All (λ i. i < length self.old.zero.shares) live.now }
         requires live1 { All (λ i. i < length self.old.one.shares) live.now }
         requires levels0 { All (λ s. level ≤ length s.levels) self.old.zero.shares }
         requires levels1 { All (λ s. level ≤ length s.levels) self.old.one.shares }
+        requires threads { 1 ≤ threads }
         ensures { self.new ≡ self.old }
     {
-        let zero = self.zero.kept_for(alloc, level, candidates, live);
+        let zero = self
+            .zero
+            .kept_for(rt, alloc, level, candidates, live, threads);
         self.zero.keep(zero);
-        let one = self.one.kept_for(alloc, level, candidates, live);
+        let one = self
+            .one
+            .kept_for(rt, alloc, level, candidates, live, threads);
         self.one.keep(one);
     }
 }

@@ -9,7 +9,9 @@ use idpf_eval::{Node, Share, eval_uncounted};
 use kept_nodes::KeptNodes;
 use prefix_bits::{Prefix, Side};
 use std::alloc::Global;
+use std::sync::Wait;
 use std::test::Fail;
+use std::thread::Threads;
 
 /// The first bits of a number, at most 8, the lowest first.
 fn prefix_of(number: u8, bits: u16) -> Prefix
@@ -60,9 +62,11 @@ fn reach(level: u16, shares: &[Share]) -> bool
     true
 }
 
-/// What is kept for a level; nothing, where it can't be asked for.
-fn next_of<'a>(
+/// What is kept for a level, made by so many threads; nothing, where it can't be asked for.
+fn next_of<'a, R: Threads + Wait + Sync>(
+    rt: &R,
     alloc: Global,
+    threads: u32,
     before: &KeptNodes<'a>,
     level: u16,
     candidates: &[Prefix],
@@ -70,14 +74,15 @@ fn next_of<'a>(
     entries: u64,
 ) -> KeptNodes<'a> {
     let shares = before.shares();
-    if level < 2
+    if threads < 1
+        || level < 2
         || !have_bits(level, candidates)
         || !are_places(shares.len(), live)
         || !reach(level, shares)
     {
         return KeptNodes::none(alloc, shares, before.side());
     }
-    before.next(alloc, level, candidates, live, entries)
+    before.next(rt, alloc, level, candidates, live, entries, threads)
 }
 
 /// The node of a share of side 1, by the evaluation from the root.
@@ -121,7 +126,7 @@ fn the_nodes_of_the_live_reports_are_kept(rt: HostRuntime) -> Result<(), Fail> {
     let none = KeptNodes::none(alloc, &shares, Side::One);
     let (first, second) = (prefix_of(0, 2), prefix_of(2, 2));
     let candidates = children(&first, &second);
-    let kept = next_of(alloc, &none, 3, &candidates, &[0, 2], 0);
+    let kept = next_of(&rt, alloc, 1, &none, 3, &candidates, &[0, 2], 0);
     assert!(rt; has(&kept, 0, &first));
     assert!(rt; has(&kept, 0, &second));
     assert!(rt; has(&kept, 2, &first));
@@ -143,10 +148,28 @@ fn the_next_level_is_made_from_the_one_before(rt: HostRuntime) -> Result<(), Fai
     ];
     let none = KeptNodes::none(alloc, &shares, Side::One);
     let (first, second) = (prefix_of(0, 2), prefix_of(2, 2));
-    let kept = next_of(alloc, &none, 3, &children(&first, &second), &[0, 1, 2], 0);
+    let kept = next_of(
+        &rt,
+        alloc,
+        2,
+        &none,
+        3,
+        &children(&first, &second),
+        &[0, 1, 2],
+        0,
+    );
     // one prefix follows from what was kept, and the other one does not
     let (third, fourth) = (prefix_of(4, 3), prefix_of(5, 3));
-    let next = next_of(alloc, &kept, 4, &children(&third, &fourth), &[1, 2], 0);
+    let next = next_of(
+        &rt,
+        alloc,
+        3,
+        &kept,
+        4,
+        &children(&third, &fourth),
+        &[1, 2],
+        0,
+    );
     assert!(rt; has(&next, 1, &third));
     assert!(rt; has(&next, 1, &fourth));
     assert!(rt; has(&next, 2, &third));
@@ -163,9 +186,30 @@ fn nothing_is_kept_where_the_cache_has_room(rt: HostRuntime) -> Result<(), Fail>
     let none = KeptNodes::none(alloc, &shares, Side::One);
     let (first, second) = (prefix_of(0, 2), prefix_of(2, 2));
     let candidates = children(&first, &second);
-    let less = next_of(alloc, &none, 3, &candidates, &[0, 1], 15);
+    let less = next_of(&rt, alloc, 1, &none, 3, &candidates, &[0, 1], 15);
     assert!(rt; has(&less, 1, &second));
-    let enough = next_of(alloc, &none, 3, &candidates, &[0, 1], 16);
+    let enough = next_of(&rt, alloc, 1, &none, 3, &candidates, &[0, 1], 16);
     assert!(rt; enough.node(1, &second).is_none());
+    Ok(())
+}
+
+#[test]
+fn any_number_of_threads_keeps_the_same(rt: HostRuntime) -> Result<(), Fail> {
+    let alloc = rt.alloc();
+    let shares = [
+        share_of(alloc, 3)?,
+        share_of(alloc, 5)?,
+        share_of(alloc, 7)?,
+    ];
+    let none = KeptNodes::none(alloc, &shares, Side::One);
+    let (first, second) = (prefix_of(0, 2), prefix_of(2, 2));
+    let candidates = children(&first, &second);
+    for threads in 1..=5 {
+        let kept = next_of(&rt, alloc, threads, &none, 3, &candidates, &[0, 1, 2], 0);
+        for report in 0..3 {
+            assert!(rt; has(&kept, report, &first));
+            assert!(rt; has(&kept, report, &second));
+        }
+    }
     Ok(())
 }

@@ -2,7 +2,7 @@ use Rattle.std.proofs.Common.{rules, ◌≡◌, ◌∙◌, [], sym, arith, slice
 use Rattle.std.proofs.lemmas.List.{get_or_default}
 use Rattle.prefix_bits.specs.Orders.{bits_decide}
 use Rattle.kept_nodes.proofs.Finding.{tied_are_same}
-use Rattle.kept_nodes.proofs.kept_nodes.place_among.Goals as goal
+use Rattle.kept_nodes.proofs.part.place_among.Goals as goal
 
 pub returns-then-eq-clause-there : goal.returns-then-eq-clause-there
 returns-then-eq-clause-there c =

@@ -1,7 +1,7 @@
 use Rattle.std.proofs.Common.{◌≡◌, length}
 use Rattle.idpf_lanes.specs.Stands.{AreFound}
 use Rattle.kept_nodes.specs.Kept.{share_at}
-use Rattle.kept_nodes.proofs.kept_nodes.KeptNodes.put_kept.Given as goal
+use Rattle.kept_nodes.proofs.part.KeptPart.put_kept.Given as goal
 
 abbrev pub invariant-loop-k : goal.invariant-loop-k
 invariant-loop-k l = record {

@@ -3,7 +3,7 @@ use Rattle.std.specs.Prelude.{IfSome}
 use Rattle.std.proofs.lemmas.List.{get_or_default}
 use Rattle.kept_nodes.specs.Kept.{share_at, node_at}
 use Rattle.kept_nodes.proofs.Finding.{found_put}
-use Rattle.kept_nodes.proofs.kept_nodes.KeptNodes.put_kept.Goals as goal
+use Rattle.kept_nodes.proofs.part.KeptPart.put_kept.Goals as goal
 
 pub loop-k-preserved : goal.loop-k-preserved
 loop-k-preserved c =

@@ -1,6 +1,6 @@
 use Rattle.std.proofs.Common.{rules, ◌≡◌, ◌∙◌, length}
 use Rattle.kept_nodes.proofs.RowPlaces.{kept_within, kept_at}
-use Rattle.kept_nodes.proofs.kept_nodes.KeptNodes.at.Goals as goal
+use Rattle.kept_nodes.proofs.part.KeptPart.at.Goals as goal
 
 pub node_in-requires : goal.node_in-requires
 node_in-requires c =
