@@ -2,7 +2,7 @@
 # Times one phase of the check, REPORTS reports of 2 bytes by 8 candidates at level 16, with 1, 2, 4 and 64 workers, then with 4 and 64
 # on two processors. REPORTS is 2000 where it is not given. Each case runs eleven phases one after another, and tells the least, the
 # middle and the most of their microseconds. Beside them, four programs of one worker each run at once, and then one alone: what four
-# processors give to work that shares nothing, since processors of a virtual machine may share a core.
+# processors give to work that shares nothing.
 set -eu
 root=$(cd "$(dirname "$(readlink -f "${BASH_SOURCE[0]}")")/.." && pwd)
 reports=${1:-2000}
